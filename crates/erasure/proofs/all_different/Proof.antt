@@ -7,44 +7,44 @@ use Rattle.erasure.proofs.Laws.ListLaws.{different_rest, different_not, differen
 use Rattle.erasure.proofs.all_different.Statement.{statement}
 use Rattle.erasure.proofs.all_different.Tie as tie
 
-abbrev invariant-loop : tie.invariant-loop
+abbrev invariant-loop : tie.invariant-loop-t
 invariant-loop bricks t₀ t = all_different t ≡ all_different bricks
 
-abbrev decreases-loop : tie.decreases-loop
+abbrev decreases-loop : tie.decreases-loop-t
 decreases-loop bricks t₀ t = length t
 
-loop-holds : tie.Need-loop-init invariant-loop decreases-loop
+loop-holds : tie.Need-loop-t-init invariant-loop decreases-loop
 loop-holds c = refl
 
-sub-rest : tie.Need-overflow-sub-rest invariant-loop decreases-loop
+sub-rest : tie.Need-slice_bounds-rest-count invariant-loop decreases-loop
 sub-rest c = omega arith
 
-part-rest-start : tie.Need-slice-bounds-rest-start invariant-loop decreases-loop
+part-rest-start : tie.Need-slice_bounds-rest-start invariant-loop decreases-loop
 part-rest-start c = omega arith
 
-part-rest-end : tie.Need-slice-bounds-rest-end invariant-loop decreases-loop
+part-rest-end : tie.Need-slice_bounds-rest-end invariant-loop decreases-loop
 part-rest-end c = search rules
 
-shared-slice-read-position : tie.Need-shared-slice-read-position invariant-loop decreases-loop
+shared-slice-read-position : tie.Need-bounds-t-0 invariant-loop decreases-loop
 shared-slice-read-position c = omega arith
 
 position-requires : tie.Need-position-requires invariant-loop decreases-loop
 position-requires c κs = search rules
 
-returns : tie.Need-returns invariant-loop decreases-loop
-returns c = different_not _ _ _ c.before.before.before.before.loop-test.true c.before.position.ensures c.if1.true c.before.before.before.before.before.loop.invariant
+returns : tie.Need-returns-then-position-rest invariant-loop decreases-loop
+returns c = different_not _ _ _ c.loop-t-test.true c.position.ensures c.if-position-rest.true c.loop-t.invariant
 
-loop-less : tie.Need-loop-smaller invariant-loop decreases-loop
+loop-less : tie.Need-loop-t-smaller invariant-loop decreases-loop
 loop-less c = simp (length-take, length-drop) (omega arith)
 
-loop-again : tie.Need-loop-preserved invariant-loop decreases-loop
-loop-again c = different_rest _ _ _ c.before.before.before.before.loop-test.true c.before.position.ensures c.if1.false c.before.before.before.before.before.loop.invariant
+loop-again : tie.Need-loop-t-preserved invariant-loop decreases-loop
+loop-again c = different_rest _ _ _ c.loop-t-test.true c.position.ensures c.if-position-rest.false c.loop-t.invariant
 
-returns-2 : tie.Need-returns-2 invariant-loop decreases-loop
-returns-2 c = different_end _ _ c.loop-test.false c.before.loop.invariant
+returns-2 : tie.Need-returns invariant-loop decreases-loop
+returns-2 c = different_end _ _ c.loop-t-test.false c.loop-t.invariant
 
-pub all-different-spec : {M : Type 1} → statement M
-all-different-spec =
+pub all_different_spec : {M : Type 1} → statement M
+all_different_spec =
     tie.close
     (tie.spec
     invariant-loop

@@ -6,12 +6,12 @@ use borrow.Author.Rules.{rules}
 use Rattle.erasure.proofs.double.Statement.{statement}
 use Rattle.erasure.proofs.double.Tie as tie
 
-mul-by-requires : tie.Need-mul-by-requires
+mul-by-requires : tie.Need-mul_by-requires
 mul-by-requires c κs = search rules
 
 returns : tie.Need-returns
 unfolding twice plus
-returns c = c.mul-by.ensures.0 ∙ product_twice _ 1 c.before.ranges.a.fits (omega arith) ∙ ap twice (product_one _)
+returns c = c.mul_by.ensures.0 ∙ product_twice _ 1 c.ranges.a.fits (omega arith) ∙ ap twice (product_one _)
 
-pub double-spec : {M : Type 1} → statement M
-double-spec = tie.close (tie.spec mul-by-requires returns)
+pub double_spec : {M : Type 1} → statement M
+double_spec = tie.close (tie.spec mul-by-requires returns)

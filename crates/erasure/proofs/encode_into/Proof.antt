@@ -14,15 +14,15 @@ use Rattle.erasure.proofs.encode_into.Tie as tie
 few : {n m size s k : ℕ} → Encodes n m size s k → m ≤ max_bricks
 few e = omega (arith, e.range.m-high, e.range.n-high)
 
-array-share-prefix-points : tie.Need-array-share-prefix-points
+array-share-prefix-points : tie.Need-slice_bounds-points-end
 array-share-prefix-points c = search rules
 
-slice-aggregate-interpolate : tie.Need-slice-aggregate-interpolate
-slice-aggregate-interpolate c = sym (first_of_all_length c.before.before.before.args.m (few c.before.before.before.requires))
+slice-aggregate-interpolate : tie.Need-slice_bounds-interpolate-end
+slice-aggregate-interpolate c = sym (first_of_all_length c.args.m (few c.requires))
 
 interpolate-requires : tie.Need-interpolate-requires
 interpolate-requires c κs =
-    let s = c.before.before.before.before in
+    let s = c in
     let e = s.requires in (
       first_of_all_set s.args.m (few e),
       (
@@ -31,18 +31,18 @@ interpolate-requires c κs =
       ),
     )
 
-same_length : tie.Need-same-length
+same_length : tie.Need-shape_of-coded
 same_length c = search rules
 
 returns : tie.Need-returns
 unfolding coded_of
 returns c =
-    let a = c.before.before.before.before.before.before.before.args in
-    c.before.before.interpolate.ensures
-    ∙ ap (λ (l : List ℕ). blocks_at l a.size a.stripe.now a.n) (first_of_all a.m (few c.before.before.before.before.before.before.before.requires))
+    let a = c.args in
+    c.interpolate.ensures
+    ∙ ap (λ (l : List ℕ). blocks_at l a.size a.stripe.now a.n) (first_of_all a.m (few c.requires))
 
-pub encode-into-spec : {M : Type 1} → statement M
-encode-into-spec =
+pub encode_into_spec : {M : Type 1} → statement M
+encode_into_spec =
     tie.close
     (tie.spec
     array-share-prefix-points

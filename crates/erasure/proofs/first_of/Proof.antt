@@ -3,11 +3,11 @@ use Rattle.settings.proofs.Laws.RefusalLaws.{first_stop}
 use Rattle.erasure.proofs.first_of.Statement.{statement}
 use Rattle.erasure.proofs.first_of.Tie as tie
 
-returns : tie.Need-returns
-returns c = first_stop _ _ c.if1.true
+returns : tie.Need-returns-then-first-ne-PASSED
+returns c = first_stop _ _ c.if-first-ne-PASSED.true
 
-returns-2 : tie.Need-returns-2
-returns-2 c = first_second _ _ c.if1.false
+returns-2 : tie.Need-returns
+returns-2 c = first_second _ _ c.if-first-ne-PASSED.false
 
-pub first-of-spec : {M : Type 1} → statement M
-first-of-spec = tie.close (tie.spec returns returns-2)
+pub first_of_spec : {M : Type 1} → statement M
+first_of_spec = tie.close (tie.spec returns returns-2)

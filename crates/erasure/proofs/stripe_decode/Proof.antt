@@ -6,43 +6,43 @@ use borrow.Author.Rules.{rules}
 use Rattle.erasure.proofs.stripe_decode.Statement.{statement}
 use Rattle.erasure.proofs.stripe_decode.Tie as tie
 
-list-refusal-requires : tie.Need-list-refusal-requires
+list-refusal-requires : tie.Need-list_refusal-reason-requires
 list-refusal-requires c κs = search rules
 
-returns : tie.Need-returns
+returns : tie.Need-returns-then-reason-ne-PASSED
 returns c =
-    let l = c.before.list-refusal.ensures in
-    let e = decode_listed _ _ _ _ _ _ _ l c.if1.true in
-    let o = stripe_refused _ _ _ _ _ _ _ l c.if1.true in
-    (e, (o, decoded_by_polynomials _ _ _ _ _ _ _ _ (λ i. (c.before.before.before.shared-slice-known2.given i).fits) e o))
+    let l = c.list_refusal-reason.ensures in
+    let e = decode_listed _ _ _ _ _ _ _ l c.if-reason-ne-PASSED.true in
+    let o = stripe_refused _ _ _ _ _ _ _ l c.if-reason-ne-PASSED.true in
+    (e, (o, decoded_by_polynomials _ _ _ _ _ _ _ _ (λ i. (c.shared_slice_known-2-1.given i).fits) e o))
 
-decode-checked-requires : tie.Need-decode-checked-requires
-decode-checked-requires c κs = (decode_passed _ _ _ _ _ _ (sym c.before.before.list-refusal.ensures ∙ c.before.if1.false)).decodes
+decode-checked-requires : tie.Need-decode_checked-requires
+decode-checked-requires c κs = (decode_passed _ _ _ _ _ _ (sym c.list_refusal-reason.ensures ∙ c.if-reason-ne-PASSED.false)).decodes
 
-same_length : tie.Need-same-length
+same_length : tie.Need-shape_of-data-then-decode_checked
 same_length c = search rules
 
-returns-2 : tie.Need-returns-2
+returns-2 : tie.Need-returns-then-decode_checked
 returns-2 c =
-    let z = sym c.before.before.before.before.before.before.list-refusal.ensures ∙ c.before.before.before.before.before.if1.false in
-    let d = c.before.before.before.decode-checked.ensures in
-    let e = decode_agrees _ _ _ _ _ _ _ z d.0 c.if2.true in
-    let o = stripe_agrees _ _ _ _ _ _ _ _ z d.0 c.if2.true d.1 in
-    (e, (o, decoded_by_polynomials _ _ _ _ _ _ _ _ (λ i. (c.before.before.before.before.before.before.before.before.shared-slice-known2.given i).fits) e o))
+    let z = sym c.list_refusal-reason.ensures ∙ c.if-reason-ne-PASSED.false in
+    let d = c.decode_checked.ensures in
+    let e = decode_agrees _ _ _ _ _ _ _ z d.0 c.if-decode_checked.true in
+    let o = stripe_agrees _ _ _ _ _ _ _ _ z d.0 c.if-decode_checked.true d.1 in
+    (e, (o, decoded_by_polynomials _ _ _ _ _ _ _ _ (λ i. (c.shared_slice_known-2-1.given i).fits) e o))
 
-same-length-2 : tie.Need-same-length-2
+same-length-2 : tie.Need-shape_of-data
 same-length-2 c = search rules
 
-returns-3 : tie.Need-returns-3
+returns-3 : tie.Need-returns
 returns-3 c =
-    let z = sym c.before.before.before.before.before.before.list-refusal.ensures ∙ c.before.before.before.before.before.if1.false in
-    let d = c.before.before.before.decode-checked.ensures in
-    let e = decode_disagrees _ _ _ _ _ _ _ z d.0 c.if2.false in
-    let o = stripe_disagrees _ _ _ _ _ _ _ _ z d.0 c.if2.false d.1 in
-    (e, (o, decoded_by_polynomials _ _ _ _ _ _ _ _ (λ i. (c.before.before.before.before.before.before.before.before.shared-slice-known2.given i).fits) e o))
+    let z = sym c.list_refusal-reason.ensures ∙ c.if-reason-ne-PASSED.false in
+    let d = c.decode_checked.ensures in
+    let e = decode_disagrees _ _ _ _ _ _ _ z d.0 c.if-decode_checked.false in
+    let o = stripe_disagrees _ _ _ _ _ _ _ _ z d.0 c.if-decode_checked.false d.1 in
+    (e, (o, decoded_by_polynomials _ _ _ _ _ _ _ _ (λ i. (c.shared_slice_known-2-1.given i).fits) e o))
 
-pub stripe-decode-spec : {M : Type 1} → statement M
-stripe-decode-spec =
+pub stripe_decode_spec : {M : Type 1} → statement M
+stripe_decode_spec =
     tie.close
     (tie.spec
     list-refusal-requires

@@ -6,28 +6,28 @@ use borrow.Author.Rules.{rules}
 use Rattle.erasure.proofs.stripe_encode.Statement.{statement}
 use Rattle.erasure.proofs.stripe_encode.Tie as tie
 
-encode-refusal-requires : tie.Need-encode-refusal-requires
+encode-refusal-requires : tie.Need-encode_refusal-number-requires
 encode-refusal-requires c κs = search rules
 
-returns : tie.Need-returns
+returns : tie.Need-returns-then-number-ne-PASSED
 unfolding encoded_buffer
 returns c =
-    let e = c.before.encode-refusal.ensures in
-    (e, refused_leaves _ _ _ (λ z. c.if1.true (e ∙ z)))
+    let e = c.encode_refusal-number.ensures in
+    (e, refused_leaves _ _ _ (λ z. c.if-number-ne-PASSED.true (e ∙ z)))
 
-encode-into-requires : tie.Need-encode-into-requires
-encode-into-requires c κs = encode_passed _ _ _ _ _ (sym c.before.before.encode-refusal.ensures ∙ c.before.if1.false)
+encode-into-requires : tie.Need-encode_into-requires
+encode-into-requires c κs = encode_passed _ _ _ _ _ (sym c.encode_refusal-number.ensures ∙ c.if-number-ne-PASSED.false)
 
-same_length : tie.Need-same-length
+same_length : tie.Need-shape_of-coded
 same_length c = search rules
 
-returns-2 : tie.Need-returns-2
+returns-2 : tie.Need-returns
 unfolding encoded_buffer
 returns-2 c =
-    let e = c.before.before.before.before.before.encode-refusal.ensures in
-    let z = sym e ∙ c.before.before.before.before.if1.false in
-    (sym z, passed_gives _ _ _ _ z c.before.before.encode-into.ensures)
+    let e = c.encode_refusal-number.ensures in
+    let z = sym e ∙ c.if-number-ne-PASSED.false in
+    (sym z, passed_gives _ _ _ _ z c.encode_into.ensures)
 
-pub stripe-encode-spec : {M : Type 1} → statement M
-stripe-encode-spec =
+pub stripe_encode_spec : {M : Type 1} → statement M
+stripe_encode_spec =
     tie.close (tie.spec encode-refusal-requires returns encode-into-requires same_length returns-2)
