@@ -131,8 +131,8 @@ module _ (n m size stripes : ℕ) (c : Coordinator) (blocks stripe coded : List 
       let q = sym (returned_answer c blocks stripe coded p a blocks' stripe' coded' e) in
       record {
         few = few_returned c blocks stripe coded p a blocks' stripe' coded' h e;
-        first_low = subst (FirstLow m c) q (first_low m c p l);
-        second_low = subst (SecondLow m c) q (second_low m c p l);
+        first-low = subst (FirstLow m c) q (first_low m c p l);
+        second-low = subst (SecondLow m c) q (second_low m c p l);
       }
 
   pub write_lists : (number reading : ℕ) (bytes : List ℕ)

@@ -8,43 +8,43 @@ use Rattle.brick_log.proofs.cut_for.Statement.{statement}
 use Rattle.brick_log.proofs.cut_for.Tie as tie
 use Rattle.image.specs.Opening.{blank}
 
-abbrev invariant-loop : tie.invariant-loop
+abbrev invariant-loop : tie.invariant-loop-d
 invariant-loop count time log last d₀ d = (d ≤ last) × (cut_from (log_time log) time d (count - 1 - d) ≡ cut_for log count time)
 
-abbrev decreases-loop : tie.decreases-loop
+abbrev decreases-loop : tie.decreases-loop-d
 decreases-loop count time log last d₀ d = last - d
 
-sub-last : tie.Need-overflow-sub-last invariant-loop decreases-loop
+sub-last : tie.Need-overflow_sub-last invariant-loop decreases-loop
 sub-last c = search rules
 
-loop-holds : tie.Need-loop-init invariant-loop decreases-loop
+loop-holds : tie.Need-loop-d-init invariant-loop decreases-loop
 loop-holds c = (omega arith, cut_start _ _ _)
 
-mul-e : tie.Need-overflow-mul-e invariant-loop decreases-loop
+mul-e : tie.Need-offset_bounds-log-d invariant-loop decreases-loop
 mul-e c = omega arith
 
-array-copy-out-e : tie.Need-array-copy-out-e invariant-loop decreases-loop
+array-copy-out-e : tie.Need-bounds-log-d invariant-loop decreases-loop
 array-copy-out-e c = omega arith
 
-returns : tie.Need-returns invariant-loop decreases-loop
+returns : tie.Need-returns-then-time-e invariant-loop decreases-loop
 unfolding blank
-returns c = cut_here _ _ _ _ (omega arith) c.if1.true c.before.before.before.before.loop.invariant.1
+returns c = cut_here _ _ _ _ (omega arith) c.if-time-e.true c.loop-d.invariant.1
 
-add-d : tie.Need-overflow-add-d invariant-loop decreases-loop
+add-d : tie.Need-overflow_add-d invariant-loop decreases-loop
 add-d c = omega arith
 
-loop-less : tie.Need-loop-smaller invariant-loop decreases-loop
+loop-less : tie.Need-loop-d-smaller invariant-loop decreases-loop
 loop-less c = omega arith
 
-loop-again : tie.Need-loop-preserved invariant-loop decreases-loop
+loop-again : tie.Need-loop-d-preserved invariant-loop decreases-loop
 unfolding blank
-loop-again c = (omega arith, cut_next _ _ _ _ (omega arith) c.if1.false c.before.before.before.before.loop.invariant.1)
+loop-again c = (omega arith, cut_next _ _ _ _ (omega arith) c.if-time-e.false c.loop-d.invariant.1)
 
-returns-2 : tie.Need-returns-2 invariant-loop decreases-loop
-returns-2 c = cut_last _ _ _ _ (omega arith) c.before.loop.invariant.1
+returns-2 : tie.Need-returns invariant-loop decreases-loop
+returns-2 c = cut_last _ _ _ _ (omega arith) c.loop-d.invariant.1
 
-pub cut-for-spec : {M : Type 1} → statement M
-cut-for-spec =
+pub cut_for_spec : {M : Type 1} → statement M
+cut_for_spec =
     tie.close
     (tie.spec
     invariant-loop

@@ -8,40 +8,40 @@ use Rattle.brick_log.proofs.find_time.Statement.{statement}
 use Rattle.brick_log.proofs.find_time.Tie as tie
 use Rattle.image.specs.Opening.{blank}
 
-abbrev invariant-loop : tie.invariant-loop
+abbrev invariant-loop : tie.invariant-loop-n
 invariant-loop count time log n₀ n = (n ≤ count) × (time_in log time n ≡ time_in log time count)
 
-abbrev decreases-loop : tie.decreases-loop
+abbrev decreases-loop : tie.decreases-loop-n
 decreases-loop count time log n₀ n = n
 
-loop-holds : tie.Need-loop-init invariant-loop decreases-loop
+loop-holds : tie.Need-loop-n-init invariant-loop decreases-loop
 loop-holds c = (omega arith, refl)
 
-sub-i : tie.Need-overflow-sub-i invariant-loop decreases-loop
+sub-i : tie.Need-overflow_sub-i invariant-loop decreases-loop
 sub-i c = omega arith
 
-mul-e : tie.Need-overflow-mul-e invariant-loop decreases-loop
+mul-e : tie.Need-offset_bounds-log-i invariant-loop decreases-loop
 mul-e c = omega arith
 
-array-copy-out-e : tie.Need-array-copy-out-e invariant-loop decreases-loop
+array-copy-out-e : tie.Need-bounds-log-i invariant-loop decreases-loop
 array-copy-out-e c = omega arith
 
-returns : tie.Need-returns invariant-loop decreases-loop
+returns : tie.Need-returns-then-e-time invariant-loop decreases-loop
 unfolding blank
-returns c = last_found _ _ (c.before.before.before.before.loop.n - 1) _ (omega arith) (eq-eqb _ _ c.if1.true) c.before.before.before.before.loop.invariant.1
+returns c = last_found _ _ (c.loop-n.n - 1) _ (omega arith) (eq-eqb _ _ c.if-e-time.true) c.loop-n.invariant.1
 
-loop-less : tie.Need-loop-smaller invariant-loop decreases-loop
+loop-less : tie.Need-loop-n-smaller invariant-loop decreases-loop
 loop-less c = omega arith
 
-loop-again : tie.Need-loop-preserved invariant-loop decreases-loop
+loop-again : tie.Need-loop-n-preserved invariant-loop decreases-loop
 unfolding blank
-loop-again c = (omega arith, sym (last_down _ _ (c.before.before.before.before.loop.n - 1) (omega arith) (ne_eqb _ _ c.if1.false)) ∙ c.before.before.before.before.loop.invariant.1)
+loop-again c = (omega arith, sym (last_down _ _ (c.loop-n.n - 1) (omega arith) (ne_eqb _ _ c.if-e-time.false)) ∙ c.loop-n.invariant.1)
 
-returns-2 : tie.Need-returns-2 invariant-loop decreases-loop
-returns-2 c = last_none _ _ _ (omega arith) c.before.loop.invariant.1
+returns-2 : tie.Need-returns invariant-loop decreases-loop
+returns-2 c = last_none _ _ _ (omega arith) c.loop-n.invariant.1
 
-pub find-time-spec : {M : Type 1} → statement M
-find-time-spec =
+pub find_time_spec : {M : Type 1} → statement M
+find_time_spec =
     tie.close
     (tie.spec
     invariant-loop

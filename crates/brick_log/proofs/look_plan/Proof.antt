@@ -3,26 +3,26 @@ use borrow.Author.Rules.{rules}
 use Rattle.brick_log.proofs.look_plan.Statement.{statement}
 use Rattle.brick_log.proofs.look_plan.Tie as tie
 
-order-yes-requires : tie.Need-order-yes-requires
+order-yes-requires : tie.Need-order_yes-requires
 order-yes-requires c κs = search rules
 
-reply-plan-requires : tie.Need-reply-plan-requires
+reply-plan-requires : tie.Need-reply_plan-requires
 reply-plan-requires c κs = search rules
 
-returns : tie.Need-returns
+returns : tie.Need-returns-else-order_yes
 returns c = search (rules, looks_no)
 
-look-under-requires : tie.Need-look-under-requires
+look-under-requires : tie.Need-look_under-looked-requires
 look-under-requires c κs = search rules
 
-entry-plan-requires : tie.Need-entry-plan-requires
+entry-plan-requires : tie.Need-entry_plan-requires
 entry-plan-requires c κs = search (rules, looked_low)
 
-returns-2 : tie.Need-returns-2
+returns-2 : tie.Need-returns
 returns-2 c = search (rules, looks_yes)
 
-pub look-plan-spec : {M : Type 1} → statement M
-look-plan-spec =
+pub look_plan_spec : {M : Type 1} → statement M
+look_plan_spec =
     tie.close
     (tie.spec
     order-yes-requires

@@ -3,11 +3,11 @@ use borrow.Author.Tests.{lt-ltb, le-ltb}
 use Rattle.brick_log.proofs.order_yes.Statement.{statement}
 use Rattle.brick_log.proofs.order_yes.Tie as tie
 
-returns : tie.Need-returns
+returns : tie.Need-returns-then-newest-time
 returns c = search (rules, lt-ltb, le-ltb)
 
-returns-2 : tie.Need-returns-2
+returns-2 : tie.Need-returns
 returns-2 c = search (rules, lt-ltb, le-ltb)
 
-pub order-yes-spec : {M : Type 1} → statement M
-order-yes-spec = tie.close (tie.spec returns returns-2)
+pub order_yes_spec : {M : Type 1} → statement M
+order_yes_spec = tie.close (tie.spec returns returns-2)

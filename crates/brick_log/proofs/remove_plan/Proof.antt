@@ -7,5 +7,5 @@ returns : tie.Need-returns
 unfolding remove_plan
 returns c = refl
 
-pub remove-plan-spec : {M : Type 1} → statement M
-remove-plan-spec = tie.close (tie.spec returns)
+pub remove_plan_spec : {M : Type 1} → statement M
+remove_plan_spec = tie.close (tie.spec returns)

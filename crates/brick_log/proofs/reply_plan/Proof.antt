@@ -7,5 +7,5 @@ returns : tie.Need-returns
 unfolding plan_of
 returns c = refl
 
-pub reply-plan-spec : {M : Type 1} → statement M
-reply-plan-spec = tie.close (tie.spec returns)
+pub reply_plan_spec : {M : Type 1} → statement M
+reply_plan_spec = tie.close (tie.spec returns)

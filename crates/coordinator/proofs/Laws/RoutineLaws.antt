@@ -180,7 +180,7 @@ module _ (n m size stripes : ℕ) (c : Coordinator) (r : Reply) (block blocks st
         let g = ap (λ (o : Op). o.round) same in
         record {
           range = p.range;
-          first_low = omega (arith, f, p.parts.first-low);
+          first-low = omega (arith, f, p.parts.first-low);
           block-low = subst (λ (o : Op). on_block o.kind ≡ true → o.first < m) (sym same) p.parts.block-low;
           round-low = omega (arith, g, round_high c.op p.parts.op-right);
           blocks-length = l ∙ p.blocks-length;

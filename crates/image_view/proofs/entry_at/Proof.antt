@@ -6,55 +6,55 @@ use borrow.Author.Rules.{rules}
 use Rattle.image_view.proofs.entry_at.Statement.{statement}
 use Rattle.image_view.proofs.entry_at.Tie as tie
 
-returns : tie.Need-returns
+returns : tie.Need-returns-then-image-count
 returns c = search (rules, at_short)
 
-returns-2 : tie.Need-returns-2
+returns-2 : tie.Need-returns-then-count-place
 returns-2 c = search (rules, at_past)
 
-add_at : tie.Need-overflow-add-at
+add_at : tie.Need-overflow_add-at
 add_at c = search rules
 
-mul_at : tie.Need-overflow-mul-at
+mul_at : tie.Need-overflow_mul-at
 mul_at c = search rules
 
-add-e : tie.Need-overflow-add-e
+add-e : tie.Need-overflow_add-e
 add-e c = search rules
 
-sub-t : tie.Need-overflow-sub-t
+sub-t : tie.Need-slice_bounds-t-count
 sub-t c = search rules
 
-part-t-start : tie.Need-slice-bounds-t-start
+part-t-start : tie.Need-slice_bounds-t-start
 part-t-start c = search rules
 
-part-t-end : tie.Need-slice-bounds-t-end
+part-t-end : tie.Need-slice_bounds-t-end
 part-t-end c = search rules
 
-read8-requires : tie.Need-read8-requires
+read8-requires : tie.Need-read8-time-requires
 read8-requires c κs = search rules
 
-is-mark-requires : tie.Need-is-mark-requires
+is-mark-requires : tie.Need-is_mark-requires
 is-mark-requires c κs = search rules
 
-returns-3 : tie.Need-returns-3
+returns-3 : tie.Need-returns-then-is_mark
 unfolding time_in
 returns-3 c =
     let read = c.before.before in
-    let below = read.before.before in
-    at_mark _ _ _ _ _ _ below.before.if1.false below.if2.false (part_is _ _ _ refl) read.read8.ensures c.before.is-mark.ensures c.if3.true
+    let below = read in
+    at_mark _ _ _ _ _ _ below.if-image-count.false below.if-count-place.false (part_is _ _ _ refl) read.read8-time.ensures c.is_mark.ensures c.if-is_mark.true
 
-add-t8 : tie.Need-overflow-add-t8
+add-t8 : tie.Need-overflow_add-result
 add-t8 c = search rules
 
-returns-4 : tie.Need-returns-4
+returns-4 : tie.Need-returns
 unfolding time_in
 returns-4 c =
     let read = c.before.before in
-    let below = read.before.before in
-    at_held _ _ _ _ _ _ below.before.if1.false below.if2.false (part_is _ _ _ refl) read.read8.ensures c.before.is-mark.ensures c.if3.false
+    let below = read in
+    at_held _ _ _ _ _ _ below.if-image-count.false below.if-count-place.false (part_is _ _ _ refl) read.read8-time.ensures c.is_mark.ensures c.if-is_mark.false
 
-pub entry-at-spec : {M : Type 1} → statement M
-entry-at-spec =
+pub entry_at_spec : {M : Type 1} → statement M
+entry_at_spec =
     tie.close
     (tie.spec
     returns

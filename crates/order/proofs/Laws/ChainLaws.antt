@@ -79,7 +79,7 @@ module _ {P : Plain} where
       go (goes_on_lem c) (next_is e) (Memᴰ.tail j) r = r c (under (h, subst (λ (z : Fact P). Suf (z ∷ h) g) e s) d) j
 
   -- a launched time is in its chain
-  pub chain_top : {h : History P} {t : ℕ} {s : Source} {a : History P} → Suf (launched t s ∷ a) h → t ∈ chain h t
+  pub chain_top : {t : ℕ} {s : Source} {a h : History P} → Suf (launched t s ∷ a) h → t ∈ chain h t
   unfolding chain follow
   chain_top {t} {s} {a} whole = go (link {P = P} (launched t s) t) (view (launched t s) t)
     where

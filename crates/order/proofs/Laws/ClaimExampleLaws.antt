@@ -56,6 +56,7 @@ no_order : (os : List (Operation one_byte)) (a b : Operation one_byte) (s : List
     → ((o : Operation one_byte) → o ∈ os → o.time ≡ 16 → Before o a os)
     → ⊥
 unfolding Right Once given changed
+no_order [] a b s i p q r u g f = elim i [ ]
 no_order (x ∷ os) a b s (here e i) p q r u g f =
     let kx = read_of x (g x (Memᴰ.head refl)) (λ t. let z : ◌≡◌ {A = ℕ} 16 33 = cc in omega arith) in
     let at : ◌≡◌ {A = Seen one_byte} (Seen.ended x.time (finished (bytes nought))) (Seen.ended 33 (finished (bytes nought))) = cc in

@@ -1,5 +1,5 @@
 -- Places: an end of an end is an end, and of two places one is the earlier or they are the same.
-use mathlib.Core.Path.{◌≡◌, refl}
+use mathlib.Core.Path.{◌≡◌, refl, subst, sym}
 use mathlib.Core.Logic.{◌⊎◌, inl, inr}
 use mathlib.Core.List.{List, ◌∷◌}
 use Prim.Native.Nat.{◌≤◌}
@@ -31,15 +31,18 @@ module _ {A : Type 0} where
   suf_length (above s) = omega (arith, suf_length s)
 
   -- the last step of a way up
-  pub suf_cons : {a h : List A} {g : A} → Suf a (g ∷ h) → (a ≡ g ∷ h) ⊎ Suf a h
+  pub suf_cons : {g : A} {h a : List A} → Suf a (g ∷ h) → (a ≡ g ∷ h) ⊎ Suf a h
   suf_cons whole = inl refl
   suf_cons (above s) = inr s
 
   -- of two ends of one list one is an end of the other
   pub suf_either : {a b h : List A} → Suf a h → Suf b h → Suf a b ⊎ Suf b a
   suf_either whole t = inr t
-  suf_either (above s) whole = inl (above s)
-  suf_either (above s) (above t) = suf_either s t
+  suf_either {a} {b} (above {f} {h} s) t = go (suf_cons t) (λ r. suf_either s r)
+    where
+      go : (b ≡ f ∷ h) ⊎ Suf b h → (Suf b h → Suf a b ⊎ Suf b a) → Suf a b ⊎ Suf b a
+      go (inl e) r = inl (subst (λ (z : List A). Suf a z) (sym e) (above s))
+      go (inr q) r = r q
 
 -- how two places of one history lie
 pub data Cmp {A : Type 0} (f : A) (a : List A) (g : A) (b : List A) : Type 0 where

@@ -167,7 +167,7 @@ module _ (s : Settings) (e : in_range s ≡ true) (events : List Event) (k : Buf
   runs : Running s g holds.0 (view stripe before).sent (coordinator_of x.from.last.time) at
   unfolding counting with_tally
   runs =
-      (AgreementLaws.counted-holds s g before x.from.last x.from.block x.from.qth holds.0 holds.1
+      (AgreementLaws.counted_holds s g before x.from.last x.from.block x.from.qth holds.0 holds.1
       ).runs (AgreementLaws.busy s g before x.from.last x.from.block x.from.qth)
 
   was_met : Met s before.world.sent at
@@ -211,7 +211,7 @@ module _ (s : Settings) (e : in_range s ≡ true) (events : List Event) (k : Buf
   unfolding AllYes counting with_tally
   coded =
       top_coded s g holds.0 (view stripe before).sent (coordinator_of x.from.last.time) at holds.1.valid
-      (AgreementLaws.counted-holds s g before x.from.last x.from.block x.from.qth holds.0 holds.1) holds.1.items
+      (AgreementLaws.counted_holds s g before x.from.last x.from.block x.from.qth holds.0 holds.1) holds.1.items
       (AgreementLaws.busy s g before x.from.last x.from.block x.from.qth) says.phase-is says.all_yes x.from.qth.is-qth many
 
   -- a read's store has what was decoded from these bricks, and their row
@@ -414,6 +414,11 @@ module _ (s : Settings) (e : in_range s ≡ true) (events : List Event) (a : Rep
 
   one_round_end : w.seen.letter ≡ letter_f → (d : Decision) → acted s.n s.m s.size after d ≡ w → ReadEnd s after d → OneRoundRead s after w.seen w.next.stripe
   unfolding acted ending
+  one_round_end r Abort q x = elim x [ ]
+  one_round_end r (Look _) q x = elim x [ ]
+  one_round_end r Store q x = elim x [ ]
+  one_round_end r (Modify _) q x = elim x [ ]
+  one_round_end r (Recover _) q x = elim x [ ]
   one_round_end r Give q (at_once d) = subst (λ (v : Went). OneRoundRead s after v.seen v.next.stripe) q (one_round d)
   one_round_end r Finish q (restored k p) =
       absurd
@@ -429,6 +434,11 @@ module _ (s : Settings) (e : in_range s ≡ true) (events : List Event) (a : Rep
 
   recovered_end : (w.seen.letter ≡ letter_f → ⊥) → (d : Decision) → acted s.n s.m s.size after d ≡ w → ReadEnd s after d → NamesFirst w
   unfolding acted ending counting with_tally
+  recovered_end n Abort q x = elim x [ ]
+  recovered_end n (Look _) q x = elim x [ ]
+  recovered_end n Store q x = elim x [ ]
+  recovered_end n (Modify _) q x = elim x [ ]
+  recovered_end n (Recover _) q x = elim x [ ]
   recovered_end n Give q (at_once d) =
       absurd (n (ap (λ (v : Went). v.seen.letter) (sym q) ∙ sym (given_letter s.n own.state.op after.state.tally) ∙ sym (letter_f_lem own.state.op d.phase-is)))
   recovered_end n Finish q (restored k p) = subst NamesFirst q (x.from, was_met s e events own x, read_recovered s e events own x k _ read-seen other refl)

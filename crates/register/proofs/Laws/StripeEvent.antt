@@ -145,7 +145,7 @@ module _ (s : Settings) (g : SettingsRange s) (k : ℕ) (h : Hist s) (r : Moved 
   unfolding After raw
   write_goes number reading content small =
       after_step (write_step s.n s.m s.size s.stripes raw number reading content)
-      (λ w e. starts number w (StripeLaws.write-starts s.n s.m s.size s.stripes raw number reading content w e)
+      (λ w e. starts number w (StripeLaws.write_starts s.n s.m s.size s.stripes raw number reading content w e)
       (λ _. write_turned s g h (view k r).sent c raw i.valid own_clock i.items number reading w content small e))
 
   pub read_goes : (number reading first : ℕ)
@@ -153,7 +153,7 @@ module _ (s : Settings) (g : SettingsRange s) (k : ℕ) (h : Hist s) (r : Moved 
   unfolding After raw
   read_goes number reading first =
       after_step (read_step s.n s.m s.size s.stripes raw number reading first)
-      (λ w e. starts number w (StripeLaws.read-starts s.n s.m s.size s.stripes raw number reading first w e)
+      (λ w e. starts number w (StripeLaws.read_starts s.n s.m s.size s.stripes raw number reading first w e)
       (λ _. read_turned s g h (view k r).sent c raw i.valid own_clock i.items number reading w first e))
 
   pub write_block_goes : (number reading block : ℕ) (content : List ℕ) → Bytes content
@@ -161,7 +161,7 @@ module _ (s : Settings) (g : SettingsRange s) (k : ℕ) (h : Hist s) (r : Moved 
   unfolding After raw
   write_block_goes number reading block content small =
       after_step (write_block_step s.n s.m s.size s.stripes raw number reading block content)
-      (λ w e. starts number w (StripeLaws.write-block-starts s.n s.m s.size s.stripes raw number reading block content w e)
+      (λ w e. starts number w (StripeLaws.write_block_starts s.n s.m s.size s.stripes raw number reading block content w e)
       (λ _. write_block_turned s g h (view k r).sent c raw i.valid own_clock i.items number reading w block content small e))
 
   pub read_block_goes : (number reading block : ℕ)
@@ -169,7 +169,7 @@ module _ (s : Settings) (g : SettingsRange s) (k : ℕ) (h : Hist s) (r : Moved 
   unfolding After raw
   read_block_goes number reading block =
       after_step (read_block_step s.n s.m s.size s.stripes raw number reading block)
-      (λ w e. starts number w (StripeLaws.read-block-starts s.n s.m s.size s.stripes raw number reading block w e)
+      (λ w e. starts number w (StripeLaws.read_block_starts s.n s.m s.size s.stripes raw number reading block w e)
       (λ _. read_block_turned s g h (view k r).sent c raw i.valid own_clock i.items number reading w block e))
 
   -- A COORDINATOR CRASHES
