@@ -6,56 +6,56 @@ use borrow.Author.Rules.{rules}
 use Rattle.brick.proofs.act.Statement.{statement}
 use Rattle.brick.proofs.act.Tie as tie
 
-is-silent-requires : tie.Need-is-silent-requires
+is-silent-requires : tie.Need-is_silent-requires
 is-silent-requires c κs = search rules
 
 remove-requires : tie.Need-remove-requires
 remove-requires c κs =
-    let p = c.before.before.before.before.before.before.before.requires in
-    (p.0, remove_ready _ _ _ _ _ _ p.0 p.1.0 _ c.before.before.is-silent.ensures c.before.if1.true)
+    let p = c.requires in
+    (p.0, remove_ready _ _ _ _ _ _ p.0 p.1.0 _ c.is_silent.ensures c.if-is_silent.true)
 
-same_length : tie.Need-same-length
+same_length : tie.Need-shape_of-image-then-is_silent
 same_length c = search rules
 
-returns : tie.Need-returns
+returns : tie.Need-returns-then-is_silent
 returns c =
-    let told = c.before.before.before.before.before in
-    let p = told.before.before.before.before.before.requires in
-    acts_silent _ _ _ _ _ _ p.0 p.1.0 _ _ _ _ _ told.is-silent.ensures c.before.before.before.before.if1.true c.before.before.remove.ensures
+    let told = c in
+    let p = told.requires in
+    acts_silent _ _ _ _ _ _ p.0 p.1.0 _ _ _ _ _ told.is_silent.ensures c.if-is_silent.true c.remove.ensures
 
 give-requires : tie.Need-give-requires
 unfolding image_size
 give-requires c κs =
-    let p = c.before.before.before.before.before.before.before.before.requires in
+    let p = c.requires in
     let r = p.0 in
     (p.1.1.0.2, r.saved.range.code.size-high, omega (arith, r.saved.long, r.high, place_low _ _ _ _ _ _ r p.1.0))
 
-comparison-of-requires : tie.Need-comparison-of-requires
+comparison-of-requires : tie.Need-comparison_of-said-requires
 comparison-of-requires c κs = search rules
 
 change-requires : tie.Need-change-requires
 change-requires c κs =
-    let p = c.before.before.before.before.before.before.before.before.before.before.before.before.before.requires in
-    let speaks = sym c.before.before.before.before.before.before.before.before.is-silent.ensures ∙ c.before.before.before.before.before.before.before.if1.false in (
+    let p = c.requires in
+    let speaks = sym c.is_silent.ensures ∙ c.if-is_silent.false in (
       p.0,
-      ((p.1.1.0.0, p.1.1.0.1), (speaks, p.1.1.1, said_is _ _ _ _ _ _ p.0 p.1.0 _ c.before.comparison-of.ensures)),
+      ((p.1.1.0.0, p.1.1.0.1), (speaks, p.1.1.1, said_is _ _ _ _ _ _ p.0 p.1.0 _ c.comparison_of-said.ensures)),
     )
 
-same-length-2 : tie.Need-same-length-2
+same-length-2 : tie.Need-shape_of-image
 same-length-2 c = search rules
 
-same-length-3 : tie.Need-same-length-3
+same-length-3 : tie.Need-shape_of-out
 same-length-3 c = search rules
 
-returns-2 : tie.Need-returns-2
+returns-2 : tie.Need-returns
 returns-2 c =
-    let told = c.before.before.before.before.before.before.before.before.before.before.before in
-    let p = told.before.before.before.before.before.requires in
-    acts_reply _ _ _ _ _ _ p.0 p.1.0 _ _ _ _ _ _ _ told.is-silent.ensures c.before.before.before.before.before.before.before.before.before.before.if1.false
-    c.before.before.before.before.comparison-of.ensures c.before.before.change.ensures c.before.before.before.before.before.before.before.give.ensures
+    let told = c in
+    let p = told.requires in
+    acts_reply _ _ _ _ _ _ p.0 p.1.0 _ _ _ _ _ _ _ told.is_silent.ensures c.if-is_silent.false
+    c.comparison_of-said.ensures c.change.ensures c.give.ensures
 
-pub act-spec : {M : Type 1} → statement M
-act-spec =
+pub act_spec : {M : Type 1} → statement M
+act_spec =
     tie.close
     (tie.spec
     is-silent-requires

@@ -3,17 +3,17 @@ use borrow.Author.Rules.{rules}
 use Rattle.brick.proofs.beside_right.Statement.{statement}
 use Rattle.brick.proofs.beside_right.Tie as tie
 
-returns : tie.Need-returns
+returns : tie.Need-returns-then-block-s
 returns c = search (rules, beside_block)
 
-returns-2 : tie.Need-returns-2
+returns-2 : tie.Need-returns-then-old-s
 returns-2 c = search (rules, beside_old)
 
-returns-3 : tie.Need-returns-3
+returns-3 : tie.Need-returns
 returns-3 c = search (rules, beside_out)
 
-pub beside-right-spec : {M : Type 1} → statement M
-beside-right-spec =
+pub beside_right_spec : {M : Type 1} → statement M
+beside_right_spec =
     tie.close
     (tie.spec
     returns

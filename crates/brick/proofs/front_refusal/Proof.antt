@@ -7,50 +7,50 @@ use borrow.Author.Rules.{rules}
 use Rattle.brick.proofs.front_refusal.Statement.{statement}
 use Rattle.brick.proofs.front_refusal.Tie as tie
 
-refusal-requires : tie.Need-refusal-requires
+refusal-requires : tie.Need-refusal-bad-requires
 refusal-requires c κs = search rules
 
-returns : tie.Need-returns
+returns : tie.Need-returns-then-bad-ne-PASSED
 returns c = search (rules, front_setting)
 
-range : (c : tie.After-struct-known) → SettingsRange c.before.before.before.args.s
-range c = settings_passed _ (sym c.before.before.refusal.ensures ∙ c.before.if1.false)
+range : (c : tie.After-struct_known-1) → SettingsRange c.args.s
+range c = settings_passed _ (sym c.refusal-bad.ensures ∙ c.if-bad-ne-PASSED.false)
 
-add-if2 : tie.Need-overflow-add-if2
+add-if2 : tie.Need-overflow_add-s
 add-if2 c = omega (arith, range c)
 
-mul-if2 : tie.Need-overflow-mul-if2
+mul-if2 : tie.Need-overflow_mul-s
 mul-if2 c = omega (arith, range c)
 
-mul-if2-2 : tie.Need-overflow-mul-if2-2
-mul-if2-2 c = omega (arith, images_small _ _ c.before.before.before.requires (range c).capacity-high)
+mul-if2-2 : tie.Need-overflow_mul-images
+mul-if2-2 c = omega (arith, images_small _ _ c.requires (range c).capacity-high)
 
-returns-2 : tie.Need-returns-2
+returns-2 : tie.Need-returns-then-lent-images
 returns-2 c = search (rules, front_lent)
 
-beside-right-requires : tie.Need-beside-right-requires
+beside-right-requires : tie.Need-beside_right-requires
 beside-right-requires c κs = search rules
 
-returns-3 : tie.Need-returns-3
+returns-3 : tie.Need-returns-else-beside_right
 returns-3 c = search (rules, front_beside)
 
-returns-4 : tie.Need-returns-4
+returns-4 : tie.Need-returns-then-s-brick
 returns-4 c = search (rules, front_brick)
 
-stripe-refusal-requires : tie.Need-stripe-refusal-requires
+stripe-refusal-requires : tie.Need-stripe_refusal-outside-requires
 stripe-refusal-requires c κs = search rules
 
-returns-5 : tie.Need-returns-5
+returns-5 : tie.Need-returns-then-outside-ne-PASSED
 returns-5 c = search (rules, front_stripe)
 
-block-refusal-requires : tie.Need-block-refusal-requires
+block-refusal-requires : tie.Need-block_refusal-requires
 block-refusal-requires c κs = search rules
 
-returns-6 : tie.Need-returns-6
+returns-6 : tie.Need-returns
 returns-6 c = search (rules, front_block)
 
-pub front-refusal-spec : {M : Type 1} → statement M
-front-refusal-spec =
+pub front_refusal_spec : {M : Type 1} → statement M
+front_refusal_spec =
     tie.close
     (tie.spec
     refusal-requires

@@ -4,29 +4,29 @@ use borrow.Author.Rules.{rules}
 use Rattle.coord_record.proofs.block_write_right.Statement.{statement}
 use Rattle.coord_record.proofs.block_write_right.Tie as tie
 
-opening-right-requires : tie.Need-opening-right-requires
+opening-right-requires : tie.Need-opening_right-requires
 opening-right-requires c κs = search rules
 
-returns : tie.Need-returns
+returns : tie.Need-returns-then-op-eq-ORDER_BLOCK
 unfolding block_write_right
 returns c = search (rules, eq-eqb, ne_eqb)
 
-returns-2 : tie.Need-returns-2
+returns-2 : tie.Need-returns-then-op-eq-SECOND_ROUND
 unfolding block_write_right
 returns-2 c = search (rules, eq-eqb, ne_eqb)
 
-returns-3 : tie.Need-returns-3
+returns-3 : tie.Need-returns-then-op-eq-MODIFY
 unfolding block_write_right
 returns-3 c = search (rules, eq-eqb, ne_eqb)
 
-recovery-right-requires : tie.Need-recovery-right-requires
+recovery-right-requires : tie.Need-recovery_right-requires
 recovery-right-requires c κs = search rules
 
-returns-4 : tie.Need-returns-4
+returns-4 : tie.Need-returns
 unfolding block_write_right
 returns-4 c = search (rules, eq-eqb, ne_eqb)
 
-pub block-write-right-spec : {M : Type 1} → statement M
-block-write-right-spec =
+pub block_write_right_spec : {M : Type 1} → statement M
+block_write_right_spec =
     tie.close
     (tie.spec opening-right-requires returns returns-2 returns-3 recovery-right-requires returns-4)

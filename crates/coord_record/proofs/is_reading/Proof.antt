@@ -4,13 +4,13 @@ use borrow.Author.Rules.{rules}
 use Rattle.coord_record.proofs.is_reading.Statement.{statement}
 use Rattle.coord_record.proofs.is_reading.Tie as tie
 
-returns : tie.Need-returns
+returns : tie.Need-returns-then-kind-eq-READING
 unfolding is_reading
 returns c = search (rules, eq-eqb, ne_eqb)
 
-returns-2 : tie.Need-returns-2
+returns-2 : tie.Need-returns-else-kind-eq-READING
 unfolding is_reading
 returns-2 c = search (rules, eq-eqb, ne_eqb)
 
-pub is-reading-spec : {M : Type 1} → statement M
-is-reading-spec = tie.close (tie.spec returns returns-2)
+pub is_reading_spec : {M : Type 1} → statement M
+is_reading_spec = tie.close (tie.spec returns returns-2)

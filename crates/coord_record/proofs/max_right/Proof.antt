@@ -5,16 +5,16 @@ use borrow.Author.Rules.{rules}
 use Rattle.coord_record.proofs.max_right.Statement.{statement}
 use Rattle.coord_record.proofs.max_right.Tie as tie
 
-returns : tie.Need-returns
+returns : tie.Need-returns-then-round-eq-SECOND_ROUND
 unfolding max_right no_upper_end
 returns c = search (rules, lt-ltb, le-ltb, lt-leb, le-leb, eq-eqb, ne_eqb)
 
-is-time-requires : tie.Need-is-time-requires
+is-time-requires : tie.Need-is_time-requires
 is-time-requires c κs = search rules
 
-returns-2 : tie.Need-returns-2
+returns-2 : tie.Need-returns
 unfolding max_right no_upper_end
 returns-2 c = search (rules, lt-ltb, le-ltb, lt-leb, le-leb, eq-eqb, ne_eqb)
 
-pub max-right-spec : {M : Type 1} → statement M
-max-right-spec = tie.close (tie.spec returns is-time-requires returns-2)
+pub max_right_spec : {M : Type 1} → statement M
+max_right_spec = tie.close (tie.spec returns is-time-requires returns-2)

@@ -6,5 +6,5 @@ returns : tie.Need-returns
 unfolding no_op nothing_counted idle_with no_bricks
 returns c = cc
 
-pub no-op-spec : {M : Type 1} → statement M
-no-op-spec = tie.close (tie.spec returns)
+pub no_op_spec : {M : Type 1} → statement M
+no_op_spec = tie.close (tie.spec returns)

@@ -6,5 +6,5 @@ returns : tie.Need-returns
 unfolding no_op nothing_counted idle_with no_bricks
 returns c = cc
 
-pub nothing-counted-spec : {M : Type 1} → statement M
-nothing-counted-spec = tie.close (tie.spec returns)
+pub nothing_counted_spec : {M : Type 1} → statement M
+nothing_counted_spec = tie.close (tie.spec returns)

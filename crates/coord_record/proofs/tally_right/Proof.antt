@@ -12,78 +12,78 @@ use Rattle.coord_record.proofs.tally_right.Statement.{statement}
 use Rattle.coord_record.proofs.tally_right.Tie as tie
 use Rattle.settings.specs.Ranges.{max_bricks}
 
-abbrev invariant-loop : tie.invariant-loop
+abbrev invariant-loop : tie.invariant-loop-b
 invariant-loop n m phase first counted granted held found said b₀ b =
     (b ≤ max_bricks)
     × ((k : ℕ) → k < b
     → true ≡ entry_right n m phase first k (get_or counted k 0) (get_or granted k 0) (get_or held k 0) (get_or found k 0)
     && said_right phase (get_or counted k 0) (get_or granted k 0) (get_or said k 0))
 
-abbrev decreases-loop : tie.decreases-loop
+abbrev decreases-loop : tie.decreases-loop-b
 decreases-loop n m phase first counted granted held found said b₀ b = max_bricks - b
 
-loop-holds : tie.Need-loop-init invariant-loop decreases-loop
+loop-holds : tie.Need-loop-b-init invariant-loop decreases-loop
 loop-holds c = (omega arith, λ k h. absurd (not-suc-le-zero h))
 
-array-read-entry-right : tie.Need-array-read-entry-right invariant-loop decreases-loop
+array-read-entry-right : tie.Need-bounds-counted-b invariant-loop decreases-loop
 array-read-entry-right c = search rules
 
-array-read-entry-right-2 : tie.Need-array-read-entry-right-2 invariant-loop decreases-loop
+array-read-entry-right-2 : tie.Need-bounds-granted-b invariant-loop decreases-loop
 array-read-entry-right-2 c = search rules
 
-array-read-entry-right-3 : tie.Need-array-read-entry-right-3 invariant-loop decreases-loop
+array-read-entry-right-3 : tie.Need-bounds-held-b invariant-loop decreases-loop
 array-read-entry-right-3 c = search rules
 
-mul-entry-right : tie.Need-overflow-mul-entry-right invariant-loop decreases-loop
+mul-entry-right : tie.Need-offset_bounds-found-b invariant-loop decreases-loop
 mul-entry-right c = search rules
 
-array-read-entry-right-4 : tie.Need-array-read-entry-right-4 invariant-loop decreases-loop
+array-read-entry-right-4 : tie.Need-bounds-found-b invariant-loop decreases-loop
 array-read-entry-right-4 c = search rules
 
-entry-right-requires : tie.Need-entry-right-requires invariant-loop decreases-loop
+entry-right-requires : tie.Need-entry_right-requires invariant-loop decreases-loop
 entry-right-requires c κs = search rules
 
-returns : tie.Need-returns invariant-loop decreases-loop
-returns c = tally_not _ _ _ _ _ _ _ c.before.before.loop-test.true c.before.entry-right.ensures c.if1.false
+returns : tie.Need-returns-else-entry_right invariant-loop decreases-loop
+returns c = tally_not _ _ _ _ _ _ _ c.loop-b-test.true c.entry_right.ensures c.if-entry_right.false
 
-array-read-said-right : tie.Need-array-read-said-right invariant-loop decreases-loop
+array-read-said-right : tie.Need-bounds-counted-b-in-loop-b invariant-loop decreases-loop
 array-read-said-right c = search rules
 
-array-read-said-right-2 : tie.Need-array-read-said-right-2 invariant-loop decreases-loop
+array-read-said-right-2 : tie.Need-bounds-granted-b-in-loop-b invariant-loop decreases-loop
 array-read-said-right-2 c = search rules
 
-array-read-said-right-3 : tie.Need-array-read-said-right-3 invariant-loop decreases-loop
+array-read-said-right-3 : tie.Need-bounds-said-b invariant-loop decreases-loop
 array-read-said-right-3 c = search rules
 
-said-right-requires : tie.Need-said-right-requires invariant-loop decreases-loop
+said-right-requires : tie.Need-said_right-requires invariant-loop decreases-loop
 said-right-requires c κs = search rules
 
-add-b : tie.Need-overflow-add-b invariant-loop decreases-loop
+add-b : tie.Need-overflow_add-b invariant-loop decreases-loop
 add-b c = search rules
 
-loop-less : tie.Need-loop-smaller invariant-loop decreases-loop
+loop-less : tie.Need-loop-b-smaller invariant-loop decreases-loop
 loop-less c = search rules
 
-loop-again : tie.Need-loop-preserved invariant-loop decreases-loop
+loop-again : tie.Need-loop-b-preserved invariant-loop decreases-loop
 loop-again c =
-    let l = c.before.before.before.before.before.loop in
-    let tested = c.before.before in (
+    let l = c.loop-b in
+    let tested = c in (
       omega arith,
       below_more _ _ l.invariant.1
-          (both_pass _ _ _ _ tested.before.entry-right.ensures tested.if1.true c.before.said-right.ensures c.if2.true),
+          (both_pass _ _ _ _ tested.entry_right.ensures tested.if-entry_right.true c.said_right.ensures c.if-said_right.true),
     )
 
-returns-2 : tie.Need-returns-2 invariant-loop decreases-loop
+returns-2 : tie.Need-returns-else-said_right invariant-loop decreases-loop
 returns-2 c =
-    let tested = c.before.before in
-    tally_unsaid _ _ _ _ _ _ _ _ tested.before.before.loop-test.true tested.before.entry-right.ensures tested.if1.true
-    c.before.said-right.ensures c.if2.false
+    let tested = c in
+    tally_unsaid _ _ _ _ _ _ _ _ tested.loop-b-test.true tested.entry_right.ensures tested.if-entry_right.true
+    c.said_right.ensures c.if-said_right.false
 
-returns-3 : tie.Need-returns-3 invariant-loop decreases-loop
-returns-3 c = tally_all _ _ _ _ _ _ c.loop-test.false c.before.loop.invariant.1
+returns-3 : tie.Need-returns invariant-loop decreases-loop
+returns-3 c = tally_all _ _ _ _ _ _ c.loop-b-test.false c.loop-b.invariant.1
 
-pub tally-right-spec : {M : Type 1} → statement M
-tally-right-spec =
+pub tally_right_spec : {M : Type 1} → statement M
+tally_right_spec =
     tie.close
     (tie.spec
     invariant-loop

@@ -3,35 +3,35 @@ use borrow.Author.Rules.{rules}
 use Rattle.coord_record.proofs.Coordinator.filled_right.Statement.{statement}
 use Rattle.coord_record.proofs.Coordinator.filled_right.Tie as tie
 
-named-count-requires : tie.Need-named-count-requires
+named-count-requires : tie.Need-named_count-requires
 named-count-requires c κs = search rules
 
-bricks-right-requires : tie.Need-bricks-right-requires
+bricks-right-requires : tie.Need-bricks_right-requires
 bricks-right-requires c κs = search rules
 
-target-count-requires : tie.Need-target-count-requires
+target-count-requires : tie.Need-target_count-requires
 target-count-requires c κs = search rules
 
-tally-right-requires : tie.Need-tally-right-requires
+tally-right-requires : tie.Need-tally_right-requires
 tally-right-requires c κs = search rules
 
-members-of-requires : tie.Need-members-of-requires
+members-of-requires : tie.Need-members_of-requires
 members-of-requires c κs = search rules
 
-quorum-of-requires : tie.Need-quorum-of-requires
+quorum-of-requires : tie.Need-quorum_of-requires
 quorum-of-requires c κs = search rules
 
-returns : tie.Need-returns
+returns : tie.Need-returns-then-tally_right
 returns c = search (rules, filled_open)
 
-returns-2 : tie.Need-returns-2
+returns-2 : tie.Need-returns-else-tally_right
 returns-2 c = search (rules, filled_tally)
 
-returns-3 : tie.Need-returns-3
+returns-3 : tie.Need-returns-else-bricks_right
 returns-3 c = search (rules, filled_bricks)
 
-pub filled-right-spec : {M : Type 1} → statement M
-filled-right-spec =
+pub filled_right_spec : {M : Type 1} → statement M
+filled_right_spec =
     tie.close
     (tie.spec
     named-count-requires

@@ -3,16 +3,16 @@ use borrow.Author.Rules.{rules}
 use Rattle.coord_record.proofs.Geometry.same.Statement.{statement}
 use Rattle.coord_record.proofs.Geometry.same.Tie as tie
 
-returns : tie.Need-returns
+returns : tie.Need-returns-then-self-n
 returns c = search (rules, other_n)
 
-returns-2 : tie.Need-returns-2
+returns-2 : tie.Need-returns-then-self-m
 returns-2 c = search (rules, other_m)
 
-returns-3 : tie.Need-returns-3
+returns-3 : tie.Need-returns-then-self-size
 returns-3 c = search (rules, other_size)
 
-returns-4 : tie.Need-returns-4
+returns-4 : tie.Need-returns
 returns-4 c = search (rules, same_stripes)
 
 pub same_spec : {M : Type 1} → statement M
