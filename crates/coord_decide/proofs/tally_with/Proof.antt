@@ -3,36 +3,36 @@ use borrow.Author.Rules.{rules}
 use Rattle.coord_decide.proofs.tally_with.Statement.{statement}
 use Rattle.coord_decide.proofs.tally_with.Tie as tie
 
-array-write-counted : tie.Need-array-write-counted
+array-write-counted : tie.Need-bounds-counted-b
 array-write-counted c = search rules
 
-flag-of-requires : tie.Need-flag-of-requires
+flag-of-requires : tie.Need-flag_of-requires
 flag-of-requires c κs = search rules
 
-array-write-granted : tie.Need-array-write-granted
+array-write-granted : tie.Need-bounds-granted-b
 array-write-granted c = search rules
 
-flag-of-requires-2 : tie.Need-flag-of-requires-2
+flag-of-requires-2 : tie.Need-flag_of-requires-2
 flag-of-requires-2 c κs = search rules
 
-array-write-held : tie.Need-array-write-held
+array-write-held : tie.Need-bounds-held-b
 array-write-held c = search rules
 
-mul-found : tie.Need-overflow-mul-found
+mul-found : tie.Need-offset_bounds-found-b
 mul-found c = search rules
 
-array-write-found : tie.Need-array-write-found
+array-write-found : tie.Need-bounds-found-b
 array-write-found c = search rules
 
-array-write-said : tie.Need-array-write-said
+array-write-said : tie.Need-bounds-said-b
 array-write-said c = search rules
 
 returns : tie.Need-returns
 unfolding tallied
 returns c = cc
 
-pub tally-with-spec : {M : Type 1} → statement M
-tally-with-spec =
+pub tally_with_spec : {M : Type 1} → statement M
+tally_with_spec =
     tie.close
     (tie.spec
     array-write-counted

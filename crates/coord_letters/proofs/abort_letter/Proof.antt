@@ -3,29 +3,29 @@ use borrow.Author.Rules.{rules}
 use Rattle.coord_letters.proofs.abort_letter.Statement.{statement}
 use Rattle.coord_letters.proofs.abort_letter.Tie as tie
 
-any-no-requires : tie.Need-any-no-requires
+any-no-requires : tie.Need-any_no-requires
 any-no-requires c κs = search rules
 
-returns : tie.Need-returns
+returns : tie.Need-returns-else-any_no
 returns c = search (rules, letter_x_lem)
 
-stores-entry-requires : tie.Need-stores-entry-requires
+stores-entry-requires : tie.Need-stores_entry-requires
 stores-entry-requires c κs = search rules
 
-returns-2 : tie.Need-returns-2
+returns-2 : tie.Need-returns-else-stores_entry
 returns-2 c = search (rules, letter_o_lem)
 
-any-other-no-requires : tie.Need-any-other-no-requires
+any-other-no-requires : tie.Need-any_other_no-requires
 any-other-no-requires c κs = search rules
 
-returns-3 : tie.Need-returns-3
+returns-3 : tie.Need-returns-then-any_other_no
 returns-3 c = search (rules, letter_w_lem)
 
-returns-4 : tie.Need-returns-4
+returns-4 : tie.Need-returns
 returns-4 c = search (rules, letter_g_lem)
 
-pub abort-letter-spec : {M : Type 1} → statement M
-abort-letter-spec =
+pub abort_letter_spec : {M : Type 1} → statement M
+abort_letter_spec =
     tie.close
     (tie.spec
     any-no-requires

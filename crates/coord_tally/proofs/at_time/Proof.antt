@@ -4,13 +4,13 @@ use borrow.Author.Rules.{rules}
 use Rattle.coord_tally.proofs.at_time.Statement.{statement}
 use Rattle.coord_tally.proofs.at_time.Tie as tie
 
-returns : tie.Need-returns
+returns : tie.Need-returns-then-flag-eq1
 unfolding at_time
 returns c = search (rules, eq-eqb, ne_eqb)
 
-returns-2 : tie.Need-returns-2
+returns-2 : tie.Need-returns
 unfolding at_time
 returns-2 c = search (rules, eq-eqb, ne_eqb)
 
-pub at-time-spec : {M : Type 1} → statement M
-at-time-spec = tie.close (tie.spec returns returns-2)
+pub at_time_spec : {M : Type 1} → statement M
+at_time_spec = tie.close (tie.spec returns returns-2)

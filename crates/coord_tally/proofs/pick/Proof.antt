@@ -10,63 +10,63 @@ use Rattle.coord_tally.proofs.pick.Statement.{statement}
 use Rattle.coord_tally.proofs.pick.Tie as tie
 use Rattle.settings.specs.Ranges.{max_bricks}
 
-abbrev invariant-loop : tie.invariant-loop
+abbrev invariant-loop : tie.invariant-loop-brick
 invariant-loop time n m flags found row₀ k₀ brick₀ row k brick =
     Picks (at_times flags found time) m brick row k × (brick ≤ n) × (k ≤ brick) × (length row ≡ max_bricks)
 
-abbrev decreases-loop : tie.decreases-loop
+abbrev decreases-loop : tie.decreases-loop-brick
 decreases-loop time n m flags found row₀ k₀ brick₀ row k brick = n - brick
 
-loop-holds : tie.Need-loop-init invariant-loop decreases-loop
+loop-holds : tie.Need-loop-brick-init invariant-loop decreases-loop
 loop-holds c = (picks_none _ _, omega arith, omega arith, refl)
 
-array-read-at-time : tie.Need-array-read-at-time invariant-loop decreases-loop
+array-read-at-time : tie.Need-bounds-flags-brick invariant-loop decreases-loop
 array-read-at-time c = omega arith
 
-mul-at-time : tie.Need-overflow-mul-at-time invariant-loop decreases-loop
+mul-at-time : tie.Need-offset_bounds-found-brick invariant-loop decreases-loop
 mul-at-time c = omega arith
 
-array-read-at-time-2 : tie.Need-array-read-at-time-2 invariant-loop decreases-loop
+array-read-at-time-2 : tie.Need-bounds-found-brick invariant-loop decreases-loop
 array-read-at-time-2 c = omega arith
 
-at-time-requires : tie.Need-at-time-requires invariant-loop decreases-loop
+at-time-requires : tie.Need-at_time-requires invariant-loop decreases-loop
 at-time-requires c κs = search rules
 
-cast-row : tie.Need-overflow-cast-row invariant-loop decreases-loop
+cast-row : tie.Need-overflow_cast-row invariant-loop decreases-loop
 cast-row c = omega arith
 
-array-write-row : tie.Need-array-write-row invariant-loop decreases-loop
+array-write-row : tie.Need-bounds-row-k invariant-loop decreases-loop
 array-write-row c = omega arith
 
-add-k : tie.Need-overflow-add-k invariant-loop decreases-loop
+add-k : tie.Need-overflow_add-k invariant-loop decreases-loop
 add-k c = omega arith
 
-add-brick : tie.Need-overflow-add-brick invariant-loop decreases-loop
+add-brick : tie.Need-overflow_add-brick invariant-loop decreases-loop
 add-brick c = omega arith
 
-loop-less : tie.Need-loop-smaller invariant-loop decreases-loop
+loop-less : tie.Need-loop-brick-smaller invariant-loop decreases-loop
 loop-less c = omega arith
 
-loop-again : tie.Need-loop-preserved invariant-loop decreases-loop
+loop-again : tie.Need-loop-brick-preserved invariant-loop decreases-loop
 unfolding at_times
 loop-again c =
-    let l = c.before.before.before.loop in
-    let e = c.before.at-time.ensures in
+    let l = c.loop-brick in
+    let e = c.at_time.ensures in
     ⊎_elim
     (λ w. (
-      picks_same _ _ _ _ _ _ _ (picks_more _ _ _ _ _ _ l.invariant.0 e w.0.taken w.1.taken (omega arith)) w.2 w.3,
+      picks_same _ _ _ _ _ _ _ (picks_more _ _ _ _ _ _ l.invariant.0 e w.if-at_time.true w.if-k-m.true (omega arith)) w.row-is w.k-is,
       omega arith,
-      omega (arith, w.3),
-      ap length w.2 ∙ length-set l.row l.k l.brick ∙ l.invariant.3,
+      omega (arith, w.k-is),
+      ap length w.row-is ∙ length-set l.row l.k l.brick ∙ l.invariant.3,
     ))
     (λ v. ⊎_elim
-    (λ w. (picks_same _ _ _ _ _ _ _ (picks_full _ _ _ _ _ _ l.invariant.0 e w.0.taken w.1.left) w.2 w.3, omega arith, omega (arith, w.3), ap length w.2 ∙ l.invariant.3))
-    (λ w. (picks_same _ _ _ _ _ _ _ (picks_not _ _ _ _ _ _ l.invariant.0 e w.0.left) w.1 w.2, omega arith, omega (arith, w.2), ap length w.1 ∙ l.invariant.3))
+    (λ w. (picks_same _ _ _ _ _ _ _ (picks_full _ _ _ _ _ _ l.invariant.0 e w.if-at_time.true w.if-k-m.false) w.row-is w.k-is, omega arith, omega (arith, w.k-is), ap length w.row-is ∙ l.invariant.3))
+    (λ w. (picks_same _ _ _ _ _ _ _ (picks_not _ _ _ _ _ _ l.invariant.0 e w.if-at_time.false) w.row-is w.k-is, omega arith, omega (arith, w.k-is), ap length w.row-is ∙ l.invariant.3))
     v)
-    c.if1.branch
+    c.if-at_time.branch-raw
 
 returns : tie.Need-returns invariant-loop decreases-loop
-returns c = picks_all _ _ _ _ _ _ _ _ c.before.loop.invariant.0 c.loop-test.false c.before.loop.invariant.1
+returns c = picks_all _ _ _ _ _ _ _ _ c.loop-brick.invariant.0 c.loop-brick-test.false c.loop-brick.invariant.1
 
 pub pick_spec : {M : Type 1} → statement M
 pick_spec =

@@ -9,36 +9,36 @@ use Rattle.coord_tally.proofs.target_flags.Statement.{statement}
 use Rattle.coord_tally.proofs.target_flags.Tie as tie
 use Rattle.settings.specs.Ranges.{max_bricks}
 
-abbrev invariant-loop : tie.invariant-loop
+abbrev invariant-loop : tie.invariant-loop-b
 invariant-loop n m first flags₀ b₀ flags b =
     Filled (target_flag n m first) (replicate max_bricks 0) flags b × (b ≤ max_bricks)
 
-abbrev decreases-loop : tie.decreases-loop
+abbrev decreases-loop : tie.decreases-loop-b
 decreases-loop n m first flags₀ b₀ flags b = max_bricks - b
 
-loop-holds : tie.Need-loop-init invariant-loop decreases-loop
+loop-holds : tie.Need-loop-b-init invariant-loop decreases-loop
 loop-holds c = (filled_none _ _, omega arith)
 
-target-flag-requires : tie.Need-target-flag-requires invariant-loop decreases-loop
+target-flag-requires : tie.Need-target_flag-requires invariant-loop decreases-loop
 target-flag-requires c κs = search rules
 
-array-write-flags : tie.Need-array-write-flags invariant-loop decreases-loop
+array-write-flags : tie.Need-bounds-flags-b invariant-loop decreases-loop
 array-write-flags c = omega arith
 
-add-b : tie.Need-overflow-add-b invariant-loop decreases-loop
+add-b : tie.Need-overflow_add-b invariant-loop decreases-loop
 add-b c = omega arith
 
-loop-less : tie.Need-loop-smaller invariant-loop decreases-loop
+loop-less : tie.Need-loop-b-smaller invariant-loop decreases-loop
 loop-less c = omega arith
 
-loop-again : tie.Need-loop-preserved invariant-loop decreases-loop
-loop-again c = (filled_more _ _ _ _ _ c.before.before.loop.invariant.0 (omega arith) c.target-flag.ensures, omega arith)
+loop-again : tie.Need-loop-b-preserved invariant-loop decreases-loop
+loop-again c = (filled_more _ _ _ _ _ c.loop-b.invariant.0 (omega arith) c.target_flag.ensures, omega arith)
 
 returns : tie.Need-returns invariant-loop decreases-loop
-returns c = flags_all _ _ _ _ _ c.before.loop.invariant.0 c.loop-test.false
+returns c = flags_all _ _ _ _ _ c.loop-b.invariant.0 c.loop-b-test.false
 
-pub target-flags-spec : {M : Type 1} → statement M
-target-flags-spec =
+pub target_flags_spec : {M : Type 1} → statement M
+target_flags_spec =
     tie.close
     (tie.spec
     invariant-loop

@@ -9,36 +9,36 @@ use Rattle.coord_tally.proofs.target_row.Statement.{statement}
 use Rattle.coord_tally.proofs.target_row.Tie as tie
 use Rattle.settings.specs.Ranges.{max_bricks}
 
-abbrev invariant-loop : tie.invariant-loop
+abbrev invariant-loop : tie.invariant-loop-i
 invariant-loop n m first row₀ i₀ row i =
     Filled (upward n first) (replicate max_bricks 0) row i × (i ≤ m)
 
-abbrev decreases-loop : tie.decreases-loop
+abbrev decreases-loop : tie.decreases-loop-i
 decreases-loop n m first row₀ i₀ row i = m - i
 
-loop-holds : tie.Need-loop-init invariant-loop decreases-loop
+loop-holds : tie.Need-loop-i-init invariant-loop decreases-loop
 loop-holds c = (filled_none _ _, omega arith)
 
-upward-of-requires : tie.Need-upward-of-requires invariant-loop decreases-loop
+upward-of-requires : tie.Need-upward_of-requires invariant-loop decreases-loop
 upward-of-requires c κs = search rules
 
-array-write-row : tie.Need-array-write-row invariant-loop decreases-loop
+array-write-row : tie.Need-bounds-row-i invariant-loop decreases-loop
 array-write-row c = omega arith
 
-add-i : tie.Need-overflow-add-i invariant-loop decreases-loop
+add-i : tie.Need-overflow_add-i invariant-loop decreases-loop
 add-i c = omega arith
 
-loop-less : tie.Need-loop-smaller invariant-loop decreases-loop
+loop-less : tie.Need-loop-i-smaller invariant-loop decreases-loop
 loop-less c = omega arith
 
-loop-again : tie.Need-loop-preserved invariant-loop decreases-loop
-loop-again c = (filled_more _ _ _ _ _ c.before.before.loop.invariant.0 (omega arith) c.upward-of.ensures, omega arith)
+loop-again : tie.Need-loop-i-preserved invariant-loop decreases-loop
+loop-again c = (filled_more _ _ _ _ _ c.loop-i.invariant.0 (omega arith) c.upward_of.ensures, omega arith)
 
 returns : tie.Need-returns invariant-loop decreases-loop
-returns c = targets_all _ _ _ _ _ c.before.loop.invariant.0 c.loop-test.false c.before.loop.invariant.1 (omega arith)
+returns c = targets_all _ _ _ _ _ c.loop-i.invariant.0 c.loop-i-test.false c.loop-i.invariant.1 (omega arith)
 
-pub target-row-spec : {M : Type 1} → statement M
-target-row-spec =
+pub target_row_spec : {M : Type 1} → statement M
+target_row_spec =
     tie.close
     (tie.spec
     invariant-loop
