@@ -3,41 +3,41 @@ use borrow.Author.Rules.{rules}
 use Rattle.coord_blocks.proofs.copy_block.Statement.{statement}
 use Rattle.coord_blocks.proofs.copy_block.Tie as tie
 
-mul_at : tie.Need-overflow-mul-at
+mul_at : tie.Need-overflow_mul-at
 mul_at c = search rules
 
-add-end : tie.Need-overflow-add-end
+add-end : tie.Need-overflow_add-end
 add-end c = search rules
 
-sub-copy : tie.Need-overflow-sub-copy
+sub-copy : tie.Need-slice_bounds-copy-count
 sub-copy c = search rules
 
-part-copy-start : tie.Need-slice-bounds-copy-start
+part-copy-start : tie.Need-slice_bounds-copy-start
 part-copy-start c = search rules
 
-part-copy-end : tie.Need-slice-bounds-copy-end
+part-copy-end : tie.Need-slice_bounds-copy-end
 part-copy-end c = search rules
 
-sub-copy-2 : tie.Need-overflow-sub-copy-2
+sub-copy-2 : tie.Need-slice_bounds-copy-count-2
 sub-copy-2 c = search rules
 
-part-copy-start-2 : tie.Need-slice-bounds-copy-start-2
+part-copy-start-2 : tie.Need-slice_bounds-copy-start-2
 part-copy-start-2 c = search rules
 
-part-copy-end-2 : tie.Need-slice-bounds-copy-end-2
+part-copy-end-2 : tie.Need-slice_bounds-copy-end-2
 part-copy-end-2 c = search rules
 
 copy-requires : tie.Need-copy-requires
 copy-requires c κs = search rules
 
-same_length : tie.Need-same-length
+same_length : tie.Need-shape_of-to
 same_length c = search rules
 
 returns : tie.Need-returns
-returns c = copied_block _ _ _ _ _ (search rules) c.before.before.copy.ensures
+returns c = copied_block _ _ _ _ _ (search rules) c.copy.ensures
 
-pub copy-block-spec : {M : Type 1} → statement M
-copy-block-spec =
+pub copy_block_spec : {M : Type 1} → statement M
+copy_block_spec =
     tie.close
     (tie.spec
     mul_at
