@@ -8,5 +8,5 @@ returns : tie.Need-returns
 unfolding clear_message no_bricks
 returns c = refl
 
-pub clear-message-spec : {M : Type 1} → statement M
-clear-message-spec = tie.close (tie.spec returns)
+pub clear_message_spec : {M : Type 1} → statement M
+clear_message_spec = tie.close (tie.spec returns)

@@ -7,5 +7,5 @@ returns : tie.Need-returns
 unfolding no_message no_bricks
 returns c = cc
 
-pub no-message-spec : {M : Type 1} → statement M
-no-message-spec = tie.close (tie.spec returns)
+pub no_message_spec : {M : Type 1} → statement M
+no_message_spec = tie.close (tie.spec returns)

@@ -7,5 +7,5 @@ returns : tie.Need-returns
 unfolding nothing_seen no_bricks
 returns c = cc
 
-pub nothing-seen-spec : {M : Type 1} → statement M
-nothing-seen-spec = tie.close (tie.spec returns)
+pub nothing_seen_spec : {M : Type 1} → statement M
+nothing_seen_spec = tie.close (tie.spec returns)

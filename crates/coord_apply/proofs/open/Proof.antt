@@ -5,19 +5,19 @@ use borrow.Author.Rules.{rules}
 use Rattle.coord_apply.proofs.open.Statement.{statement}
 use Rattle.coord_apply.proofs.open.Tie as tie
 
-next-op-requires : tie.Need-next-op-requires
+next-op-requires : tie.Need-next_op-op-requires
 next-op-requires c κs = search rules
 
-nothing-counted-requires : tie.Need-nothing-counted-requires
+nothing-counted-requires : tie.Need-nothing_counted-tally-requires
 nothing-counted-requires c κs = search rules
 
-round-message-requires : tie.Need-round-message-requires
+round-message-requires : tie.Need-round_message-message-requires
 round-message-requires c κs = search rules
 
-no-message-requires : tie.Need-no-message-requires
+no-message-requires : tie.Need-no_message-second-requires
 no-message-requires c κs = search rules
 
-nothing-seen-requires : tie.Need-nothing-seen-requires
+nothing-seen-requires : tie.Need-nothing_seen-seen-requires
 nothing-seen-requires c κs = search rules
 
 returns : tie.Need-returns

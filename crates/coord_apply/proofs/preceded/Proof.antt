@@ -7,5 +7,5 @@ returns : tie.Need-returns
 unfolding preceded_answer
 returns c = refl
 
-pub preceded-spec : {M : Type 1} → statement M
-preceded-spec = tie.close (tie.spec returns)
+pub preceded_spec : {M : Type 1} → statement M
+preceded_spec = tie.close (tie.spec returns)

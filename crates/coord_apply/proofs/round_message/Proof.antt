@@ -3,12 +3,12 @@ use borrow.Author.Rules.{rules}
 use Rattle.coord_apply.proofs.round_message.Statement.{statement}
 use Rattle.coord_apply.proofs.round_message.Tie as tie
 
-named-block-requires : tie.Need-named-block-requires
+named-block-requires : tie.Need-named_block-requires
 named-block-requires c κs = search rules
 
 returns : tie.Need-returns
 unfolding round_message
 returns c = cc
 
-pub round-message-spec : {M : Type 1} → statement M
-round-message-spec = tie.close (tie.spec named-block-requires returns)
+pub round_message_spec : {M : Type 1} → statement M
+round_message_spec = tie.close (tie.spec named-block-requires returns)

@@ -4,32 +4,32 @@ use borrow.Author.Rules.{rules}
 use Rattle.coord_refusals.proofs.write_refusal.Statement.{statement}
 use Rattle.coord_refusals.proofs.write_refusal.Tie as tie
 
-volume-refusal-requires : tie.Need-volume-refusal-requires
+volume-refusal-requires : tie.Need-volume_refusal-bad-requires
 volume-refusal-requires c κs = search rules
 
-returns : tie.Need-returns
+returns : tie.Need-returns-then-bad-ne0
 returns c = search (rules, write_settings)
 
-mul-if2 : tie.Need-overflow-mul-if2
-mul-if2 c = omega (arith, lengths_fit _ _ _ (ranged _ _ _ _ _ c.before.volume-refusal.ensures c.if1.false))
+mul-if2 : tie.Need-overflow_mul-m
+mul-if2 c = omega (arith, lengths_fit _ _ _ (ranged _ _ _ _ _ c.volume_refusal-bad.ensures c.if-bad-ne0.false))
 
-returns-2 : tie.Need-returns-2
+returns-2 : tie.Need-returns-then-bytes-m
 returns-2 c = search (rules, write_bytes)
 
-mul-if3 : tie.Need-overflow-mul-if3
+mul-if3 : tie.Need-overflow_mul-m-2
 mul-if3 c = search rules
 
-returns-3 : tie.Need-returns-3
+returns-3 : tie.Need-returns-then-stripe-m
 returns-3 c = search (rules, write_stripe)
 
-stripe-refusal-requires : tie.Need-stripe-refusal-requires
-stripe-refusal-requires c κs = few_bricks _ _ _ _ _ c.before.before.before.volume-refusal.ensures c.before.before.if1.false
+stripe-refusal-requires : tie.Need-stripe_refusal-requires
+stripe-refusal-requires c κs = few_bricks _ _ _ _ _ c.volume_refusal-bad.ensures c.if-bad-ne0.false
 
-returns-4 : tie.Need-returns-4
+returns-4 : tie.Need-returns
 returns-4 c = search (rules, write_rest)
 
-pub write-refusal-spec : {M : Type 1} → statement M
-write-refusal-spec =
+pub write_refusal_spec : {M : Type 1} → statement M
+write_refusal_spec =
     tie.close
     (tie.spec
     volume-refusal-requires

@@ -6,5 +6,5 @@ returns : tie.Need-returns
 unfolding first_op
 returns c = cc
 
-pub first-op-spec : {M : Type 1} → statement M
-first-op-spec = tie.close (tie.spec returns)
+pub first_op_spec : {M : Type 1} → statement M
+first_op_spec = tie.close (tie.spec returns)

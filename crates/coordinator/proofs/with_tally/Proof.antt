@@ -6,5 +6,5 @@ returns : tie.Need-returns
 unfolding with_tally
 returns c = cc
 
-pub with-tally-spec : {M : Type 1} → statement M
-with-tally-spec = tie.close (tie.spec returns)
+pub with_tally_spec : {M : Type 1} → statement M
+with_tally_spec = tie.close (tie.spec returns)

@@ -11,78 +11,78 @@ use borrow.Author.Rules.{rules}
 use Rattle.volume.proofs.fill_row.Statement.{statement}
 use Rattle.volume.proofs.fill_row.Tie as tie
 
-abbrev invariant-loop : tie.invariant-loop
+abbrev invariant-loop : tie.invariant-loop-stripe
 invariant-loop s brick images₀ room stripes stripe₀ at₀ images stripe at =
     Stacked (λ (k : ℕ). image_of s brick (fresh_brick s)) room images₀ images stripe at × (stripe ≤ s.stripes) × (room ≡ block_bytes * (s.capacity + 1))
 
-abbrev decreases-loop : tie.decreases-loop
+abbrev decreases-loop : tie.decreases-loop-stripe
 decreases-loop s brick images₀ room stripes stripe₀ at₀ images stripe at = s.stripes - stripe
 
-add-room : tie.Need-overflow-add-room invariant-loop decreases-loop
-add-room c = omega (arith, c.before.before.requires.0)
+add-room : tie.Need-overflow_add-room invariant-loop decreases-loop
+add-room c = omega (arith, c.requires.0)
 
-mul-room : tie.Need-overflow-mul-room invariant-loop decreases-loop
-mul-room c = omega (arith, c.before.before.requires.0)
+mul-room : tie.Need-overflow_mul-room invariant-loop decreases-loop
+mul-room c = omega (arith, c.requires.0)
 
-loop-holds : tie.Need-loop-init invariant-loop decreases-loop
+loop-holds : tie.Need-loop-stripe-init invariant-loop decreases-loop
 loop-holds c = (stacked_none _ _ _, omega arith, refl)
 
 -- the next image has room in the row
-within : (c : tie.In-loop invariant-loop decreases-loop) → c.before.loop.at + block_bytes * (c.before.before.before.before.args.s.capacity + 1) ≤ length c.before.loop.images
+within : (c : tie.In-loop-stripe invariant-loop decreases-loop) → c.loop-stripe.at + block_bytes * (c.args.s.capacity + 1) ≤ length c.loop-stripe.images
 within c =
-    let start = c.before.before.before.before in
-    let i = c.before.loop.invariant in
-    row_within start.args.s start.args.images.now c.before.loop.images c.before.loop.stripe c.before.loop.at
+    let start = c in
+    let i = c.loop-stripe.invariant in
+    row_within start.args.s start.args.images.now c.loop-stripe.images c.loop-stripe.stripe c.loop-stripe.at
     (block_bytes * (start.args.s.capacity + 1)) start.requires.1.1 i.0.size-kept i.0.place refl
-    (omega (arith, c.loop-test.true, start.requires.0.stripes-low))
+    (omega (arith, c.loop-stripe-test.true, start.requires.0.stripes-low))
 
-add-end : tie.Need-overflow-add-end invariant-loop decreases-loop
+add-end : tie.Need-overflow_add-end invariant-loop decreases-loop
 add-end c = record { fits = omega (arith, within c) }
 
-sub-write-fresh : tie.Need-overflow-sub-write-fresh invariant-loop decreases-loop
+sub-write-fresh : tie.Need-slice_bounds-write_fresh-count invariant-loop decreases-loop
 sub-write-fresh c = omega arith
 
-part-write-fresh-start : tie.Need-slice-bounds-write-fresh-start invariant-loop decreases-loop
+part-write-fresh-start : tie.Need-slice_bounds-write_fresh-start invariant-loop decreases-loop
 part-write-fresh-start c = omega arith
 
-part-write-fresh-end : tie.Need-slice-bounds-write-fresh-end invariant-loop decreases-loop
+part-write-fresh-end : tie.Need-slice_bounds-write_fresh-end invariant-loop decreases-loop
 part-write-fresh-end c = within c
 
-write-fresh-requires : tie.Need-write-fresh-requires invariant-loop decreases-loop
+write-fresh-requires : tie.Need-write_fresh-requires invariant-loop decreases-loop
 write-fresh-requires c κs = search rules
 
-add-stripe : tie.Need-overflow-add-stripe invariant-loop decreases-loop
+add-stripe : tie.Need-overflow_add-stripe invariant-loop decreases-loop
 add-stripe c =
-    let start = c.before.before.before.before.before.before.before.before in
-    omega (arith, c.before.before.before.before.loop-test.true, start.requires.0.stripes-low, start.requires.0.stripes-high)
+    let start = c in
+    omega (arith, c.loop-stripe-test.true, start.requires.0.stripes-low, start.requires.0.stripes-high)
 
-loop-less : tie.Need-loop-smaller invariant-loop decreases-loop
-loop-less c = omega (arith, c.before.before.before.before.loop-test.true, c.before.before.before.before.before.before.before.before.requires.0.stripes-low)
+loop-less : tie.Need-loop-stripe-smaller invariant-loop decreases-loop
+loop-less c = omega (arith, c.loop-stripe-test.true, c.requires.0.stripes-low)
 
-loop-again : tie.Need-loop-preserved invariant-loop decreases-loop
+loop-again : tie.Need-loop-stripe-preserved invariant-loop decreases-loop
 loop-again c =
-    let start = c.before.before.before.before.before.before.before.before in
-    let p = c.before.before.before.before.before.loop in
+    let start = c in
+    let p = c.loop-stripe in
     let w = within c.before.before.before.before in
     let long = part_length (block_bytes * (start.args.s.capacity + 1)) p.images p.at w in (
-      stacked_more _ _ _ _ _ _ _ p.invariant.0 w (c.before.before.write-fresh.auto.1.1.0 ∙ long)
-          (c.before.before.write-fresh.ensures.1 ∙ fresh_part _ _ _ start.requires.0 start.requires.1.0 long),
-      omega (arith, c.before.before.before.before.loop-test.true, start.requires.0.stripes-low),
+      stacked_more _ _ _ _ _ _ _ p.invariant.0 w (c.write_fresh.auto.image ∙ long)
+          (c.write_fresh.ensures.1 ∙ fresh_part _ _ _ start.requires.0 start.requires.1.0 long),
+      omega (arith, c.loop-stripe-test.true, start.requires.0.stripes-low),
       refl,
     )
 
-same_length : tie.Need-same-length invariant-loop decreases-loop
-same_length c = c.before.loop.invariant.0.size-kept
+same_length : tie.Need-shape_of-images invariant-loop decreases-loop
+same_length c = c.loop-stripe.invariant.0.size-kept
 
 returns : tie.Need-returns invariant-loop decreases-loop
 returns c =
-    let start = c.before.before.before.before in
-    let i = c.before.loop.invariant in
-    stacked_all _ (block_bytes * (start.args.s.capacity + 1)) start.args.images.now _ _ _ _ i.0 (omega (arith, c.loop-test.false)) i.1
+    let start = c in
+    let i = c.loop-stripe.invariant in
+    stacked_all _ (block_bytes * (start.args.s.capacity + 1)) start.args.images.now _ _ _ _ i.0 (omega (arith, c.loop-stripe-test.false)) i.1
     (row_size_lem start.args.s start.args.images.now start.requires.1.1)
 
-pub fill-row-spec : {M : Type 1} → statement M
-fill-row-spec =
+pub fill_row_spec : {M : Type 1} → statement M
+fill_row_spec =
     tie.close
     (tie.spec
     invariant-loop
