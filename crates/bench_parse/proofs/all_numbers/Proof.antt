@@ -6,32 +6,32 @@ use Rattle.bench_parse.proofs.Laws.NumeralLaws.{NumbersSo, numbers_start, number
 use Rattle.bench_parse.proofs.all_numbers.Statement.{statement}
 use Rattle.bench_parse.proofs.all_numbers.Tie as tie
 
-abbrev invariant-loop : tie.invariant-loop
+abbrev invariant-loop : tie.invariant-loop-k
 invariant-loop line at k₀ k = NumbersSo line at k
 
-abbrev decreases-loop : tie.decreases-loop
+abbrev decreases-loop : tie.decreases-loop-k
 decreases-loop line at k₀ k = length line + 1 - k
 
-loop-holds : tie.Need-loop-init invariant-loop decreases-loop
+loop-holds : tie.Need-loop-k-init invariant-loop decreases-loop
 loop-holds c = search (rules, numbers_start)
 
-number-from-requires : tie.Need-number-from-requires invariant-loop decreases-loop
+number-from-requires : tie.Need-number_from-p-requires invariant-loop decreases-loop
 number-from-requires c κs = search rules
 
-returns : tie.Need-returns invariant-loop decreases-loop
+returns : tie.Need-returns-else-p invariant-loop decreases-loop
 returns c = search (rules, numbers_not)
 
-loop-less : tie.Need-loop-smaller invariant-loop decreases-loop
-loop-less c = omega (arith, c.before.number-from.ensures.low c.if1.true)
+loop-less : tie.Need-loop-k-smaller invariant-loop decreases-loop
+loop-less c = omega (arith, c.number_from-p.ensures.low c.if-p.true)
 
-loop-again : tie.Need-loop-preserved invariant-loop decreases-loop
+loop-again : tie.Need-loop-k-preserved invariant-loop decreases-loop
 loop-again c = search (rules, numbers_more)
 
-returns-2 : tie.Need-returns-2 invariant-loop decreases-loop
+returns-2 : tie.Need-returns invariant-loop decreases-loop
 returns-2 c = search (rules, numbers_stop)
 
-pub all-numbers-spec : {M : Type 1} → statement M
-all-numbers-spec =
+pub all_numbers_spec : {M : Type 1} → statement M
+all_numbers_spec =
     tie.close
     (tie.spec
     invariant-loop

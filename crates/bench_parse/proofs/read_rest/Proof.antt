@@ -3,55 +3,55 @@ use Rattle.bench_parse.proofs.Laws.ReadLineLaws.{by_1, by_2, by_3, by_4, by_5, b
 use Rattle.bench_parse.proofs.read_rest.Statement.{statement}
 use Rattle.bench_parse.proofs.read_rest.Tie as tie
 
-set-from-requires : tie.Need-set-from-requires
+set-from-requires : tie.Need-set_from-requires
 set-from-requires c κs = search rules
 
-returns : tie.Need-returns
+returns : tie.Need-returns-then-command-eq-SET
 returns c = search (rules, by_1)
 
-write-from-requires : tie.Need-write-from-requires
+write-from-requires : tie.Need-write_from-requires
 write-from-requires c κs = search rules
 
-returns-2 : tie.Need-returns-2
+returns-2 : tie.Need-returns-then-command-eq-WRITE
 returns-2 c = search (rules, by_2)
 
-read-from-requires : tie.Need-read-from-requires
+read-from-requires : tie.Need-read_from-requires
 read-from-requires c κs = search rules
 
-returns-3 : tie.Need-returns-3
+returns-3 : tie.Need-returns-then-command-eq-READ
 returns-3 c = search (rules, by_3)
 
-carry-from-requires : tie.Need-carry-from-requires
+carry-from-requires : tie.Need-carry_from-requires
 carry-from-requires c κs =
-    let p = c.before.before.before.before.before.requires in
-    (p.0, p.1 c.if4.true)
+    let p = c.requires in
+    (p.0, p.1 c.if-command-eq-CARRY.true)
 
-returns-4 : tie.Need-returns-4
+returns-4 : tie.Need-returns-then-command-eq-CARRY
 returns-4 c = search (rules, by_4)
 
-crash-from-requires : tie.Need-crash-from-requires
+crash-from-requires : tie.Need-crash_from-requires
 crash-from-requires c κs = search rules
 
-returns-5 : tie.Need-returns-5
+returns-5 : tie.Need-returns-then-command-eq-CRASH
 returns-5 c = search (rules, by_5)
 
-down-from-requires : tie.Need-down-from-requires
+down-from-requires : tie.Need-down_from-requires
 down-from-requires c κs = search rules
 
-returns-6 : tie.Need-returns-6
+returns-6 : tie.Need-returns-then-command-eq-DOWN
 returns-6 c = search (rules, by_6)
 
-up-from-requires : tie.Need-up-from-requires
+up-from-requires : tie.Need-up_from-requires
 up-from-requires c κs = search rules
 
-returns-7 : tie.Need-returns-7
+returns-7 : tie.Need-returns-then-command-eq-UP
 returns-7 c = search (rules, by_7)
 
-returns-8 : tie.Need-returns-8
+returns-8 : tie.Need-returns
 returns-8 c = search (rules, by_none)
 
-pub read-rest-spec : {M : Type 1} → statement M
-read-rest-spec =
+pub read_rest_spec : {M : Type 1} → statement M
+read_rest_spec =
     tie.close
     (tie.spec
     set-from-requires

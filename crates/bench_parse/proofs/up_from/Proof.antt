@@ -3,14 +3,14 @@ use Rattle.bench_parse.proofs.Laws.ReadLineLaws.{one_not, up_is}
 use Rattle.bench_parse.proofs.up_from.Statement.{statement}
 use Rattle.bench_parse.proofs.up_from.Tie as tie
 
-alone-requires : tie.Need-alone-requires
+alone-requires : tie.Need-alone-b-requires
 alone-requires c κs = search rules
 
-returns : tie.Need-returns
+returns : tie.Need-returns-else-b
 returns c = search (rules, one_not)
 
-returns-2 : tie.Need-returns-2
+returns-2 : tie.Need-returns
 returns-2 c = search (rules, up_is)
 
-pub up-from-spec : {M : Type 1} → statement M
-up-from-spec = tie.close (tie.spec alone-requires returns returns-2)
+pub up_from_spec : {M : Type 1} → statement M
+up_from_spec = tie.close (tie.spec alone-requires returns returns-2)

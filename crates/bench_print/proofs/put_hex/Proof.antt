@@ -7,60 +7,60 @@ use Rattle.bench_print.proofs.Laws.TextLaws.{Hexing, hexing_none, hexing_room, h
 use Rattle.bench_print.proofs.put_hex.Statement.{statement}
 use Rattle.bench_print.proofs.put_hex.Tie as tie
 
-abbrev invariant-loop : tie.invariant-loop
+abbrev invariant-loop : tie.invariant-loop-i
 invariant-loop bytes at out₀ i₀ to₀ out i to = Hexing at bytes out₀ i to out
 
-abbrev decreases-loop : tie.decreases-loop
+abbrev decreases-loop : tie.decreases-loop-i
 decreases-loop bytes at out₀ i₀ to₀ out i to = length bytes - i
 
-loop-holds : tie.Need-loop-init invariant-loop decreases-loop
-loop-holds c = hexing_none _ _ _ c.before.before.requires
+loop-holds : tie.Need-loop-i-init invariant-loop decreases-loop
+loop-holds c = hexing_none _ _ _ c.requires
 
-shared-slice-read-b : tie.Need-shared-slice-read-b invariant-loop decreases-loop
+shared-slice-read-b : tie.Need-bounds-bytes-i invariant-loop decreases-loop
 shared-slice-read-b c = omega arith
 
-hex-digit-requires : tie.Need-hex-digit-requires invariant-loop decreases-loop
-hex-digit-requires c κs = omega (arith, c.shared-slice-known2.given c.before.before.loop.i)
+hex-digit-requires : tie.Need-hex_digit-requires invariant-loop decreases-loop
+hex-digit-requires c κs = omega (arith, c.shared_slice_known-in-loop-i-1.given c.loop-i.i)
 
-put-byte-requires : tie.Need-put-byte-requires invariant-loop decreases-loop
-put-byte-requires c κs = omega (arith, hexing_room _ _ _ _ _ _ c.before.before.before.loop-test.true c.before.before.before.before.loop.invariant)
+put-byte-requires : tie.Need-put_byte-to-requires invariant-loop decreases-loop
+put-byte-requires c κs = omega (arith, hexing_room _ _ _ _ _ _ c.loop-i-test.true c.loop-i.invariant)
 
-hex-digit-requires-2 : tie.Need-hex-digit-requires-2 invariant-loop decreases-loop
+hex-digit-requires-2 : tie.Need-hex_digit-requires-in-loop-i invariant-loop decreases-loop
 hex-digit-requires-2 c κs = omega arith
 
-put-byte-requires-2 : tie.Need-put-byte-requires-2 invariant-loop decreases-loop
+put-byte-requires-2 : tie.Need-put_byte-to-requires-in-loop-i invariant-loop decreases-loop
 put-byte-requires-2 c κs =
     omega (
       arith,
       hexing_room _ _ _ _ _ _
-          c.before.before.before.before.before.before.before.before.loop-test.true
-          c.before.before.before.before.before.before.before.before.before.loop.invariant,
+          c.loop-i-test.true
+          c.loop-i.invariant,
     )
 
-add-i : tie.Need-overflow-add-i invariant-loop decreases-loop
+add-i : tie.Need-overflow_add-i invariant-loop decreases-loop
 add-i c = omega arith
 
-loop-less : tie.Need-loop-smaller invariant-loop decreases-loop
+loop-less : tie.Need-loop-i-smaller invariant-loop decreases-loop
 loop-less c = omega arith
 
-loop-again : tie.Need-loop-preserved invariant-loop decreases-loop
+loop-again : tie.Need-loop-i-preserved invariant-loop decreases-loop
 loop-again c =
     hexing_more _ _ _ _ _ _ _ _ _ _ _ _ _
-    c.before.before.before.before.before.before.before.before.before.before.before.loop-test.true
-    c.before.before.before.before.before.before.before.before.before.before.before.before.loop.invariant refl
-    c.before.before.before.before.before.before.before.before.before.hex-digit.ensures
-    c.before.before.before.before.hex-digit2.ensures
-    c.before.before.before.before.before.before.before.put_byte.ensures
-    c.before.before.put-byte2.ensures (search rules)
+    c.loop-i-test.true
+    c.loop-i.invariant refl
+    c.hex_digit.ensures
+    c.hex_digit-in-loop-i.ensures
+    c.put_byte-to.ensures
+    c.put_byte-to-in-loop-i.ensures (search rules)
 
-same_length : tie.Need-same-length invariant-loop decreases-loop
-same_length c = c.before.loop.invariant.same-long
+same_length : tie.Need-shape_of-out invariant-loop decreases-loop
+same_length c = c.loop-i.invariant.same-long
 
 returns : tie.Need-returns invariant-loop decreases-loop
-returns c = hexing_all _ _ _ _ _ _ c.loop-test.false c.before.loop.invariant
+returns c = hexing_all _ _ _ _ _ _ c.loop-i-test.false c.loop-i.invariant
 
-pub put-hex-spec : {M : Type 1} → statement M
-put-hex-spec =
+pub put_hex_spec : {M : Type 1} → statement M
+put_hex_spec =
     tie.close
     (tie.spec
     invariant-loop

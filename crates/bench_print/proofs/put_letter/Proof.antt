@@ -4,22 +4,22 @@ use borrow.Author.Rules.{rules}
 use Rattle.bench_print.proofs.put_letter.Statement.{statement}
 use Rattle.bench_print.proofs.put_letter.Tie as tie
 
-put-byte-requires : tie.Need-put-byte-requires
+put-byte-requires : tie.Need-put_byte-to-requires
 put-byte-requires c κs = omega arith
 
-put-byte-requires-2 : tie.Need-put-byte-requires-2
+put-byte-requires-2 : tie.Need-put_byte-requires
 put-byte-requires-2 c κs = omega arith
 
-same_length : tie.Need-same-length
+same_length : tie.Need-shape_of-out
 same_length c = search rules
 
 returns : tie.Need-returns
 returns c = (
   placed_both _ _ _ _ _ _ _ _ (omega arith)
-      c.before.before.before.before.before.before.put_byte.ensures
-      c.before.before.put-byte2.ensures,
+      c.put_byte-to.ensures
+      c.put_byte.ensures,
   omega arith,
 )
 
-pub put-letter-spec : {M : Type 1} → statement M
-put-letter-spec = tie.close (tie.spec put-byte-requires put-byte-requires-2 same_length returns)
+pub put_letter_spec : {M : Type 1} → statement M
+put_letter_spec = tie.close (tie.spec put-byte-requires put-byte-requires-2 same_length returns)
