@@ -6,52 +6,52 @@ use Rattle.bench_lines.proofs.Laws.CutLaws.{Still, still_all, still_more, cut_ne
 use Rattle.bench_lines.proofs.cut_line.Statement.{statement}
 use Rattle.bench_lines.proofs.cut_line.Tie as tie
 
-abbrev invariant-loop : tie.invariant-loop
+abbrev invariant-loop : tie.invariant-loop-at
 invariant-loop chunk from line₀ held at₀ kept₀ line at kept = Still chunk from line₀ held line at kept
 
-abbrev decreases-loop : tie.decreases-loop
+abbrev decreases-loop : tie.decreases-loop-at
 decreases-loop chunk from line₀ held at₀ kept₀ line at kept = length chunk - at
 
-loop-holds : tie.Need-loop-init invariant-loop decreases-loop
+loop-holds : tie.Need-loop-at-init invariant-loop decreases-loop
 loop-holds c = still_all _ _ _ _
 
-shared-slice-read-byte : tie.Need-shared-slice-read-byte invariant-loop decreases-loop
+shared-slice-read-byte : tie.Need-bounds-chunk-at invariant-loop decreases-loop
 shared-slice-read-byte c = search rules
 
-add-t12 : tie.Need-overflow-add-t12 invariant-loop decreases-loop
+add-t12 : tie.Need-overflow_add-result invariant-loop decreases-loop
 add-t12 c = search rules
 
-same_length : tie.Need-same-length invariant-loop decreases-loop
-same_length c = c.before.before.before.loop.invariant.size
+same_length : tie.Need-shape_of-line-then-byte-eq-NEWLINE invariant-loop decreases-loop
+same_length c = c.loop-at.invariant.size
 
-returns : tie.Need-returns invariant-loop decreases-loop
+returns : tie.Need-returns-then-byte-eq-NEWLINE invariant-loop decreases-loop
 returns c =
-    let v = c.before.before.before.loop in
-    v.invariant.gives _ _ (cut_newline _ v.line v.at v.auto c.before.before.loop-test.true c.if1.true)
+    let v = c.loop-at in
+    v.invariant.gives _ _ (cut_newline _ v.line v.at v.auto c.loop-at-test.true c.if-byte-eq-NEWLINE.true)
 
-keep-byte-requires : tie.Need-keep-byte-requires invariant-loop decreases-loop
+keep-byte-requires : tie.Need-keep_byte-kept-requires invariant-loop decreases-loop
 keep-byte-requires c κs = search rules
 
-add_at : tie.Need-overflow-add-at invariant-loop decreases-loop
+add_at : tie.Need-overflow_add-at invariant-loop decreases-loop
 add_at c = search rules
 
-loop-less : tie.Need-loop-smaller invariant-loop decreases-loop
-loop-less c = omega (arith, c.before.before.before.before.before.before.loop-test.true)
+loop-less : tie.Need-loop-at-smaller invariant-loop decreases-loop
+loop-less c = omega (arith, c.loop-at-test.true)
 
-loop-again : tie.Need-loop-preserved invariant-loop decreases-loop
+loop-again : tie.Need-loop-at-preserved invariant-loop decreases-loop
 loop-again c =
-    let v = c.before.before.before.before.before.before.before.loop in
-    still_more _ _ _ _ v.line _ v.at v.auto _ c.before.before.before.before.before.before.loop-test.true c.before.before.before.before.if1.false
-    c.before.before.keep-byte.ensures v.invariant
+    let v = c.loop-at in
+    still_more _ _ _ _ v.line _ v.at v.auto _ c.loop-at-test.true c.if-byte-eq-NEWLINE.false
+    c.keep_byte-kept.ensures v.invariant
 
-same-length-2 : tie.Need-same-length-2 invariant-loop decreases-loop
-same-length-2 c = c.before.loop.invariant.size
+same-length-2 : tie.Need-shape_of-line invariant-loop decreases-loop
+same-length-2 c = c.loop-at.invariant.size
 
-returns-2 : tie.Need-returns-2 invariant-loop decreases-loop
-returns-2 c = let v = c.before.loop in v.invariant.gives _ _ (cut_end _ v.line v.at v.auto c.loop-test.false)
+returns-2 : tie.Need-returns invariant-loop decreases-loop
+returns-2 c = let v = c.loop-at in v.invariant.gives _ _ (cut_end _ v.line v.at v.auto c.loop-at-test.false)
 
-pub cut-line-spec : {M : Type 1} → statement M
-cut-line-spec =
+pub cut_line_spec : {M : Type 1} → statement M
+cut_line_spec =
     tie.close
     (tie.spec
     invariant-loop

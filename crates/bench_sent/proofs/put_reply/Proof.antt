@@ -5,49 +5,49 @@ use Rattle.bench_sent.proofs.Laws.SentRowLaws.{reply_put}
 use Rattle.bench_sent.proofs.put_reply.Statement.{statement}
 use Rattle.bench_sent.proofs.put_reply.Tie as tie
 
-wide-requires : tie.Need-wide-requires
+wide-requires : tie.Need-wide-kind-requires
 wide-requires c κs = search rules
 
-flag-requires : tie.Need-flag-requires
+flag-requires : tie.Need-flag-agreed-requires
 flag-requires c κs = search rules
 
-flag-requires-2 : tie.Need-flag-requires-2
+flag-requires-2 : tie.Need-flag-held-requires
 flag-requires-2 c κs = search rules
 
-wide-requires-2 : tie.Need-wide-requires-2
+wide-requires-2 : tie.Need-wide-comparison-requires
 wide-requires-2 c κs = search rules
 
-mul-store-row : tie.Need-overflow-mul-store-row
+mul-store-row : tie.Need-overflow_mul-k
 mul-store-row c = search rules
 
-slice-aggregate-store-row : tie.Need-slice-aggregate-store-row
+slice-aggregate-store-row : tie.Need-slice_bounds-store_row-end
 slice-aggregate-store-row c = search rules
 
-store-row-requires : tie.Need-store-row-requires
+store-row-requires : tie.Need-store_row-requires
 store-row-requires c κs = search rules
 
-store-bytes-requires : tie.Need-store-bytes-requires
+store-bytes-requires : tie.Need-store_bytes-requires
 store-bytes-requires c κs = search rules
 
-same_length : tie.Need-same-length
+same_length : tie.Need-shape_of-numbers
 same_length c = search rules
 
-same-length-2 : tie.Need-same-length-2
+same-length-2 : tie.Need-shape_of-bytes
 same-length-2 c = search rules
 
 returns : tie.Need-returns
 unfolding no_flags zeros
 returns c =
-    let s = c.before.before.before.before.before.before.before.before.before.before.before.before.before.before.before.before in
-    let w = c.before.before.before.before.before.before.before.before.before.before.before.before.wide.ensures in
-    let said = c.before.before.before.before.before.before.before.before.before.wide2.ensures in
+    let s = c in
+    let w = c.wide-kind.ensures in
+    let said = c.wide-comparison.ensures in
     reply_put s.args.k _ _ _ _ s.args.r s.args.block.now s.args.numbers.now s.args.bytes.now _ _ w.0 w.1
-    c.before.before.before.before.before.before.before.before.before.before.before.flag.ensures
-    c.before.before.before.before.before.before.before.before.before.before.flag2.ensures said.0 said.1
-    s.requires.0 s.requires.1 s.requires.2 c.before.before.before.before.before.before.store-row.ensures c.before.before.store_Bytes.ensures
+    c.flag-agreed.ensures
+    c.flag-held.ensures said.0 said.1
+    s.requires.0 s.requires.1 s.requires.2 c.store_row.ensures c.store_Bytes.ensures
 
-pub put-reply-spec : {M : Type 1} → statement M
-put-reply-spec =
+pub put_reply_spec : {M : Type 1} → statement M
+put_reply_spec =
     tie.close
     (tie.spec
     wide-requires

@@ -4,27 +4,27 @@ use borrow.Author.Rules.{rules}
 use Rattle.bench_state.proofs.bench_refusal.Statement.{statement}
 use Rattle.bench_state.proofs.bench_refusal.Tie as tie
 
-refusal-requires : tie.Need-refusal-requires
+refusal-requires : tie.Need-refusal-bad-requires
 refusal-requires c κs = search rules
 
-returns : tie.Need-returns
+returns : tie.Need-returns-then-bad-ne0
 returns c = search (rules, bench_bad)
 
-returns-2 : tie.Need-returns-2
+returns-2 : tie.Need-returns-then-s-gt-BRICKS
 returns-2 c = search (rules, bench_rest, lt-leb, le-leb)
 
-returns-3 : tie.Need-returns-3
+returns-3 : tie.Need-returns-then-s-gt-SIZE
 returns-3 c = search (rules, bench_rest, lt-leb, le-leb)
 
-returns-4 : tie.Need-returns-4
+returns-4 : tie.Need-returns-then-s-gt-CAPACITY
 returns-4 c = search (rules, bench_rest, lt-leb, le-leb)
 
-returns-5 : tie.Need-returns-5
+returns-5 : tie.Need-returns-then-s-ne-BENCH_STRIPES
 returns-5 c = search (rules, bench_rest, lt-leb, le-leb, ne_eqb)
 
-returns-6 : tie.Need-returns-6
+returns-6 : tie.Need-returns
 returns-6 c = search (rules, bench_rest, lt-leb, le-leb, eq-eqb)
 
-pub bench-refusal-spec : {M : Type 1} → statement M
-bench-refusal-spec =
+pub bench_refusal_spec : {M : Type 1} → statement M
+bench_refusal_spec =
     tie.close (tie.spec refusal-requires returns returns-2 returns-3 returns-4 returns-5 returns-6)

@@ -11,10 +11,10 @@ use Rattle.bench_limits.specs.Limits.{bench_coordinators}
 all_there : (s : lts.Start reads.Pre reads.Post) → length s.args.b.coordinators ≡ bench_coordinators
 all_there s = search (rules, length_mapped)
 
-mul-result : tie.Need-overflow-mul-result
+mul-result : tie.Need-offset_bounds-all-c
 mul-result c = search rules
 
-array-copy-out-result : tie.Need-array-copy-out-result
+array-copy-out-result : tie.Need-bounds-all-c
 array-copy-out-result c = search rules
 
 returns : tie.Need-returns
@@ -23,5 +23,5 @@ returns c =
     let long = all_there s in
     (any_default s.args.b.coordinators s.args.c _ _ (below_length _ s.args.b.coordinators s.args.c bench_coordinators long s.requires), long)
 
-pub coordinator-at-spec : {M : Type 1} → statement M
-coordinator-at-spec = tie.close (tie.spec mul-result array-copy-out-result returns)
+pub coordinator_at_spec : {M : Type 1} → statement M
+coordinator_at_spec = tie.close (tie.spec mul-result array-copy-out-result returns)

@@ -7,54 +7,54 @@ use Rattle.bench_state.proofs.fetch.Statement.{statement}
 use Rattle.bench_state.proofs.fetch.Tie as tie
 use Rattle.bench_limits.specs.Limits.{stripe_room, kept_room}
 
-mul_at : tie.Need-overflow-mul-at
+mul_at : tie.Need-overflow_mul-at
 mul_at c = search rules
 
-add-end : tie.Need-overflow-add-end
+add-end : tie.Need-overflow_add-end
 add-end c = search rules
 
-sub-copy : tie.Need-overflow-sub-copy
+sub-copy : tie.Need-slice_bounds-copy-count
 sub-copy c = search rules
 
-part-copy-start : tie.Need-slice-bounds-copy-start
+part-copy-start : tie.Need-slice_bounds-copy-start
 part-copy-start c = search rules
 
-part-copy-end : tie.Need-slice-bounds-copy-end
+part-copy-end : tie.Need-slice_bounds-copy-end
 part-copy-end c = search rules
 
 copy-requires : tie.Need-copy-requires
 copy-requires c κs = search rules
 
-add-from : tie.Need-overflow-add-from
+add-from : tie.Need-overflow_add-from
 add-from c = search rules
 
-add-till : tie.Need-overflow-add-till
+add-till : tie.Need-overflow_add-till
 add-till c = search rules
 
-sub-copy-2 : tie.Need-overflow-sub-copy-2
+sub-copy-2 : tie.Need-slice_bounds-copy-count-2
 sub-copy-2 c = search rules
 
-part-copy-start-2 : tie.Need-slice-bounds-copy-start-2
+part-copy-start-2 : tie.Need-slice_bounds-copy-start-2
 part-copy-start-2 c = search rules
 
-part-copy-end-2 : tie.Need-slice-bounds-copy-end-2
+part-copy-end-2 : tie.Need-slice_bounds-copy-end-2
 part-copy-end-2 c = search rules
 
 copy-requires-2 : tie.Need-copy-requires-2
 copy-requires-2 c κs = search rules
 
-same_length : tie.Need-same-length
+same_length : tie.Need-shape_of-blocks
 same_length c = search rules
 
-same-length-2 : tie.Need-same-length-2
+same-length-2 : tie.Need-shape_of-stripe
 same-length-2 c = search rules
 
 returns : tie.Need-returns
 returns c =
-    let s = c.before.before.before.before.before.before.before.before.before.before.before.before.before in
+    let s = c in
     let at = s.args.c * kept_room in (
-      part_copied at (at + length s.args.blocks.now) (length s.args.blocks.now) s.args.kept.now _ c.before.before.before.before.before.before.before.copy.ensures refl,
-      part_copied (at + stripe_room) (at + stripe_room + length s.args.stripe.now) (length s.args.stripe.now) s.args.kept.now _ c.before.before.copy2.ensures refl,
+      part_copied at (at + length s.args.blocks.now) (length s.args.blocks.now) s.args.kept.now _ c.copy.ensures refl,
+      part_copied (at + stripe_room) (at + stripe_room + length s.args.stripe.now) (length s.args.stripe.now) s.args.kept.now _ c.copy-2.ensures refl,
     )
 
 pub fetch_spec : {M : Type 1} → statement M

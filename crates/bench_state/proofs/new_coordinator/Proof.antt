@@ -4,12 +4,12 @@ use borrow.Author.Rules.{rules}
 use Rattle.bench_state.proofs.new_coordinator.Statement.{statement}
 use Rattle.bench_state.proofs.new_coordinator.Tie as tie
 
-idle-with-requires : tie.Need-idle-with-requires
+idle-with-requires : tie.Need-idle_with-requires
 idle-with-requires c κs = search rules
 
 returns : tie.Need-returns
 unfolding idle_at geometry_of
 returns c = cc
 
-pub new-coordinator-spec : {M : Type 1} → statement M
-new-coordinator-spec = tie.close (tie.spec idle-with-requires returns)
+pub new_coordinator_spec : {M : Type 1} → statement M
+new_coordinator_spec = tie.close (tie.spec idle-with-requires returns)

@@ -6,5 +6,5 @@ returns : tie.Need-returns
 unfolding with_sent
 returns c = cc
 
-pub with-sent-spec : {M : Type 1} → statement M
-with-sent-spec = tie.close (tie.spec returns)
+pub with_sent_spec : {M : Type 1} → statement M
+with_sent_spec = tie.close (tie.spec returns)
