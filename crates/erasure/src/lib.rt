@@ -271,8 +271,7 @@ pub fn recode_into(
 }
 
 // Encodes, or gives the number of the refusal and leaves the buffer.
-#[unsafe(no_mangle)]
-pub extern "C" fn stripe_encode(
+pub fn stripe_encode(
     n: usize,
     m: usize,
     size: usize,
@@ -291,8 +290,7 @@ pub extern "C" fn stripe_encode(
 }
 
 // Decodes from the blocks of m or more bricks, or gives the number of the refusal and leaves the buffer.
-#[unsafe(no_mangle)]
-pub extern "C" fn stripe_decode(
+pub fn stripe_decode(
     n: usize,
     m: usize,
     size: usize,

@@ -43,8 +43,7 @@ const PLACE_LENGTH: usize = 2;
 
 // The same from C, into a buffer of two numbers. Refused: 1 a setting, 2 a buffer of another length, 13 a block that the volume does not
 // have.
-#[unsafe(no_mangle)]
-pub extern "C" fn volume_place(
+pub fn volume_place(
     n: usize,
     m: usize,
     size: usize,
