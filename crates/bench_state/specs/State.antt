@@ -1,5 +1,5 @@
 -- What the bench keeps between two lines, and the run's world that it stands for (document 01, "The bench").
-use Rattle.std.specs.Prelude.{Bool, cond, ◌&&◌, List, [], ℕ, ◌+◌, ◌*◌, eqb, leb, ltb, get_or, take, drop}
+use Rattle.std.specs.Prelude.{Bool, cond, ◌&&◌, List, ℕ, ◌+◌, ◌*◌, eqb, leb, ltb, get_or, take, drop}
 use Rattle.settings.specs.Ranges.{in_range}
 use Rattle.settings.specs.declared.Settings.{Settings}
 use Rattle.volume.specs.Rows.{row_size, fresh_row}

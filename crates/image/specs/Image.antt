@@ -1,5 +1,5 @@
 -- Document 01, "The saved brick": "capacity + 1 blocks of 512 bytes".
-use Rattle.std.specs.Prelude.{cond, List, [], ℕ, zero, suc, ◌+◌, ◌*◌, ltb}
+use Rattle.std.specs.Prelude.{cond, List, ℕ, zero, suc, ◌+◌, ◌*◌, ltb}
 use Rattle.settings.specs.declared.Settings.{Settings}
 use Rattle.byte_lists.specs.Lists.{stacked}
 use Rattle.image_block.specs.Block.{head_block, entry_block, mark_block, unused_block}

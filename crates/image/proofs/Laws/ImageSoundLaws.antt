@@ -15,7 +15,6 @@ use Rattle.image_block.proofs.Laws.LayoutLaws.{head_length, entry_length, mark_l
 use Rattle.byte_lists.specs.Lists.{same}
 use Rattle.byte_lists.proofs.Laws.SameLaws.{same_true, same_of}
 use Rattle.image.specs.Brick.{Brick, entry_count, time_at, means_at, mark_at, saved_time, rises_at, mark_sound, entry_sound, count_sound, sound_brick}
-use Rattle.byte_lists.specs.Each.{each}
 use Rattle.byte_lists.proofs.Laws.EachLaws.{each_at, each_all}
 use Rattle.image.specs.Image.{slot_block, image_block, image_of, image_size}
 use Rattle.image.proofs.Laws.ImageLaws.{Even, stacked_at, stacked_length}

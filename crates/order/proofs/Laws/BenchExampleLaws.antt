@@ -1,6 +1,5 @@
 -- Laws of `specs/BenchExample`.
 use mathlib.Core.Path.{refl}
-use mathlib.Core.List.{[]}
 use Rattle.order.specs.Claim.{stripe, read, write, changed, given, bytes}
 use Rattle.order.specs.Facts.{seen, shows, ending_of}
 use Rattle.order.specs.Valid.{Valid, start, fresh, onto}

@@ -1,6 +1,5 @@
 -- Laws of `specs/RolledForward`.
 use mathlib.Core.Path.{refl}
-use mathlib.Core.List.{[]}
 use Rattle.order.specs.Claim.{read, changed, given, bytes}
 use Rattle.order.specs.Valid.{sets, onto}
 use Rattle.order.proofs.Laws.OneOrderTheorem.{one_order, the_order}
