@@ -38,9 +38,9 @@ fn all_edits() -> BTreeSet<(String, String)> {
     names_in("crates").into_iter().flat_map(of).collect()
 }
 
-/// Whether the text has this as a whole word: names hold letters, digits and `_`, `-`, `'`, `·`.
+/// Whether the text has this as a whole word: names hold letters, digits and `_`, `-`, `'`.
 fn holds(text: &str, word: &str) -> bool {
-    let part = |letter: char| letter.is_alphanumeric() || "_-'·".contains(letter);
+    let part = |letter: char| letter.is_alphanumeric() || "_-'".contains(letter);
     text.match_indices(word).any(|(at, _)| {
         !text[..at].ends_with(part) && !text[at + word.len()..].starts_with(part)
     })
@@ -253,7 +253,7 @@ fn every_edit_fits_its_file() {
 
 /// The names of a text that must be in scope where it stands: not numerals, λ, fields (`.name`, `name =`, `s.name`) or what a path leads to.
 fn needed(text: &str) -> BTreeSet<&str> {
-    let part = |letter: char| letter.is_alphanumeric() || "_-'·".contains(letter);
+    let part = |letter: char| letter.is_alphanumeric() || "_-'".contains(letter);
     let mut found = BTreeSet::new();
     let (mut at, mut before) = (0, ' ');
     for piece in text.split_inclusive(|letter: char| !part(letter)) {
@@ -335,8 +335,9 @@ fn every_function_has_a_contract() {
         let found = functions(&source(&krate));
         all += found.len();
         assert!(found.is_empty() || row.contains(&format!("`{krate}`")), "row b does not name {krate}");
-        let mute = found.iter().filter(|function| !function.contains("ensures {"));
-        let names = mute.filter_map(|function| function.split("fn ").nth(1)?.split('(').next());
+        let ensures = |function: &&String| function.lines().any(|line| line.trim_start().starts_with("ensures "));
+        let mute = found.iter().filter(|function| !ensures(function));
+        let names = mute.filter_map(|function| function.split("fn ").nth(1)?.split(['(', '<']).next());
         silent.extend(names.map(|name| format!("`{krate}::{name}`")));
     }
     assert!(row.contains(&format!("all {all} functions of")), "there are {all} functions");
