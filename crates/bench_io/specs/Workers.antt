@@ -2,7 +2,7 @@
 -- handed, no contract can say. Nor can a function's contract name what a call inside it answered: `turn` takes `read`'s answer as a parameter, and
 -- of all turns, and of the program, it is said that there are answers with which they are such a chain.
 use Rattle.std.specs.Prelude.{◌≡◌, Bool, true, cond, List, [], ◌∷◌, ◌++◌, ℕ, zero, suc, ◌≤◌, eqb, ℤ, pos, negsuc, length, take}
-use Rattle.libc.specs.Io.{Moved}
+use Rattle.bench_io.specs.Counts.{Moved}
 use Rattle.bench_parse.specs.Lines.{held_length}
 use Rattle.bench_lines.specs.Cutting.{Cuts, last_line}
 use Rattle.bench_player.specs.Calls.{Calls}

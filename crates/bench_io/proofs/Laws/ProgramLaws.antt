@@ -8,7 +8,7 @@ use lib.Dec.{eqb}
 use lib.IntN.{ℤ}
 use lib.ListN.{length, take, length-append}
 use borrow.Author.Tests.{eqb-true, ne_eqb}
-use Rattle.libc.specs.Io.{Moved}
+use Rattle.bench_io.specs.Counts.{Moved}
 use Rattle.bench_parse.specs.Lines.{held_length}
 use Rattle.bench_lines.specs.Cutting as cutting
 use Rattle.bench_lines.specs.Cutting.{Cuts, last_line, HandedOn, chunk}

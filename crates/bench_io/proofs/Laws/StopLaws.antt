@@ -6,7 +6,7 @@ use Prim.Native.Nat.{ℕ, zero, suc}
 use native.Mathlib.Omega.{arith}
 use lib.IntN.{ℤ, pos, negsuc}
 use lib.ListN.{length, take, length-append}
-use Rattle.libc.specs.Io.{Moved}
+use Rattle.bench_io.specs.Counts.{Moved}
 use Rattle.bench_rules.specs.Turning.{Lent}
 use Rattle.bench_io.specs.Workers.{goes_on, at_end, cannot_read, cannot_write, write_status, read_status, arrived, left_with}
 use Rattle.bench_io.specs.Workers.{TurnMade, came, ended, failed, Turns, none, next}
