@@ -27,7 +27,7 @@ same_length c = c.loop-at.invariant.size
 returns : tie.Need-returns-then-byte-eq-NEWLINE invariant-loop decreases-loop
 returns c =
     let v = c.loop-at in
-    v.invariant.gives _ _ (cut_newline _ v.line v.at v.auto c.loop-at-test.true c.if-byte-eq-NEWLINE.true)
+    v.invariant.gives _ _ (cut_newline _ v.line v.at v.kept c.loop-at-test.true c.if-byte-eq-NEWLINE.true)
 
 keep-byte-requires : tie.Need-keep_byte-kept-requires invariant-loop decreases-loop
 keep-byte-requires c κs = search rules
@@ -41,14 +41,14 @@ loop-less c = omega (arith, c.loop-at-test.true)
 loop-again : tie.Need-loop-at-preserved invariant-loop decreases-loop
 loop-again c =
     let v = c.loop-at in
-    still_more _ _ _ _ v.line _ v.at v.auto _ c.loop-at-test.true c.if-byte-eq-NEWLINE.false
+    still_more _ _ _ _ v.line _ v.at v.kept _ c.loop-at-test.true c.if-byte-eq-NEWLINE.false
     c.keep_byte-kept.ensures v.invariant
 
 same-length-2 : tie.Need-shape_of-line invariant-loop decreases-loop
 same-length-2 c = c.loop-at.invariant.size
 
 returns-2 : tie.Need-returns invariant-loop decreases-loop
-returns-2 c = let v = c.loop-at in v.invariant.gives _ _ (cut_end _ v.line v.at v.auto c.loop-at-test.false)
+returns-2 c = let v = c.loop-at in v.invariant.gives _ _ (cut_end _ v.line v.at v.kept c.loop-at-test.false)
 
 pub cut_line_spec : {M : Type 1} → statement M
 cut_line_spec =

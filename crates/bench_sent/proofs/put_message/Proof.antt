@@ -40,7 +40,7 @@ returns c =
     message_put s.args.k s.args.brick _ s.args.msg s.args.block.now s.args.old.now s.args.numbers.now s.args.bytes.now _ _ _ w.0 w.1
     (search rules)
     s.requires.0.0 s.requires.0.1 s.requires.0.2 s.requires.1 c.store_row.ensures
-    c.store_Bytes.ensures c.store.ensures
+    c.store_bytes.ensures c.store.ensures
 
 pub put_message_spec : {M : Type 1} → statement M
 put_message_spec =

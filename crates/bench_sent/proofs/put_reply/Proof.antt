@@ -44,7 +44,7 @@ returns c =
     reply_put s.args.k _ _ _ _ s.args.r s.args.block.now s.args.numbers.now s.args.bytes.now _ _ w.0 w.1
     c.flag-agreed.ensures
     c.flag-held.ensures said.0 said.1
-    s.requires.0 s.requires.1 s.requires.2 c.store_row.ensures c.store_Bytes.ensures
+    s.requires.0 s.requires.1 s.requires.2 c.store_row.ensures c.store_bytes.ensures
 
 pub put_reply_spec : {M : Type 1} → statement M
 put_reply_spec =

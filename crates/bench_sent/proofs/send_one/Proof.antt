@@ -21,7 +21,7 @@ other-start c = c.before.before.before.before.before.before.before.before.before
 inside : (c : tie.Then-msg-eq-WRITE) → (write-start c).args.j * (write-start c).args.size + (write-start c).args.size ≤ length (write-start c).args.coded.now
 inside c =
     let s = write-start c in
-    block_within (s.args.j + 1) s.args.j s.args.size s.args.msg s.args.blocks.now s.args.stripe.now s.args.coded.now s.pre.1
+    block_within (s.args.j + 1) s.args.j s.args.size s.args.msg s.args.blocks.now s.args.stripe.now s.args.coded.now s.requires.1
     (omega arith) c.if-msg-eq-WRITE.true
 
 -- and Modify's within the stripe and the reply blocks
@@ -57,7 +57,7 @@ slice-aggregate-put-message c = sym (zeros_cut_long _ (write-start c.before.befo
 put-message-requires : tie.Need-put_message-requires
 put-message-requires c κs =
     let s = write-start c.before.before.before.before in
-    ((search rules, omega arith, omega arith), zeros_cut_long s.args.size s.pre.0.0 ∙ search rules)
+    ((search rules, omega arith, omega arith), zeros_cut_long s.args.size s.requires.0.0 ∙ search rules)
 
 same_length : tie.Need-shape_of-numbers-then-msg-eq-WRITE
 same_length c = search rules
@@ -71,7 +71,7 @@ returns c =
     let s = write-start t in
     sent_write s.args.at s.args.j s.args.size s.args.msg s.args.blocks.now s.args.stripe.now s.args.coded.now _ _
     s.args.numbers.now s.args.bytes.now _ _ c.put_message.ensures.1.1
-    t.if-msg-eq-WRITE.true (inside t) refl (zeros_cut s.args.size s.pre.0.0)
+    t.if-msg-eq-WRITE.true (inside t) refl (zeros_cut s.args.size s.requires.0.0)
 
 mul-start : tie.Need-overflow_mul-start
 mul-start c = record { fits = omega (arith, new-inside c.before) }
@@ -129,7 +129,7 @@ slice-aggregate-put-message-3 c = sym (zeros_cut_long _ (other-start c.before.be
 put-message-requires-3 : tie.Need-put_message-requires-2
 put-message-requires-3 c κs =
     let s = other-start c.before.before.before.before in
-    let z = zeros_cut_long s.args.size s.pre.0.0 in
+    let z = zeros_cut_long s.args.size s.requires.0.0 in
     ((omega (arith, z), omega arith, omega arith), refl)
 
 same-length-5 : tie.Need-shape_of-numbers
@@ -142,7 +142,7 @@ returns-3 : tie.Need-returns
 returns-3 c =
     let t = c.before.before.before.before.before.before.before.before.before in
     let s = other-start t in
-    let z = zeros_cut s.args.size s.pre.0.0 in
+    let z = zeros_cut s.args.size s.requires.0.0 in
     sent_zeros s.args.at s.args.j s.args.size s.args.msg s.args.blocks.now s.args.stripe.now s.args.coded.now _ _
     s.args.numbers.now s.args.bytes.now _ _ c.put_message-2.ensures.1.1 t.if-msg-eq-WRITE.false t.if-msg-eq-MODIFY.false z z
 

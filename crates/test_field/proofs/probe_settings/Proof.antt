@@ -10,5 +10,5 @@ returns : tie.Need-returns
 unfolding settings_number
 returns c = c.refusal.ensures
 
-pub probe-settings-spec : {M : Type 1} → statement M
-probe-settings-spec = tie.close (tie.spec refusal-requires returns)
+pub probe_settings_spec : {M : Type 1} → statement M
+probe_settings_spec = tie.close (tie.spec refusal-requires returns)
