@@ -5,35 +5,35 @@ use borrow.Author.Rules.{rules}
 use Rattle.bench_carry_message.proofs.refusal_at.Statement.{statement}
 use Rattle.bench_carry_message.proofs.refusal_at.Tie as tie
 
-front-refusal-requires : tie.Need-front-refusal-requires
+front-refusal-requires : tie.Need-front_refusal-bad-requires
 front-refusal-requires c κs = search rules
 
-returns : tie.Need-returns
-returns c = refused_front _ _ _ _ _ _ c.before.front-refusal.ensures c.if1.true
+returns : tie.Need-returns-then-bad-ne-PASSED
+returns c = refused_front _ _ _ _ _ _ c.front_refusal-bad.ensures c.if-bad-ne-PASSED.true
 
-open-requires : tie.Need-open-requires
+open-requires : tie.Need-open-o-requires
 open-requires c κs = search rules
 
-number-of-requires : tie.Need-number-of-requires
+number-of-requires : tie.Need-number_of-damaged-requires
 number-of-requires c κs = search rules
 
-returns-2 : tie.Need-returns-2
+returns-2 : tie.Need-returns-then-damaged-ne-PASSED
 returns-2 c =
-    refused_image _ _ _ _ _ _ c.before.before.before.before.front-refusal.ensures c.before.before.before.if1.false _
-    (damaged_is _ _ _ _ _ c.before.before.«open».ensures c.before.number_of_lem.ensures) c.if2.true
+    refused_image _ _ _ _ _ _ c.front_refusal-bad.ensures c.if-bad-ne-PASSED.false _
+    (damaged_is _ _ _ _ _ c.open-o.ensures c.number_of-damaged.ensures) c.if-damaged-ne-PASSED.true
 
 refusal-requires : tie.Need-refusal-requires
 refusal-requires c κs =
-    let r = (fronted _ _ _ _ _ _ _ c.before.before.before.before.front-refusal.ensures c.before.before.before.if1.false).range.code in
+    let r = (fronted _ _ _ _ _ _ _ c.front_refusal-bad.ensures c.if-bad-ne-PASSED.false).range.code in
     omega (arith, r)
 
-returns-3 : tie.Need-returns-3
+returns-3 : tie.Need-returns
 returns-3 c =
-    refused_message _ _ _ _ _ _ c.before.before.before.before.before.front-refusal.ensures c.before.before.before.before.if1.false _
-    (damaged_is _ _ _ _ _ c.before.before.before.«open».ensures c.before.before.number_of_lem.ensures) c.before.if2.false _ c.refusal.ensures
+    refused_message _ _ _ _ _ _ c.front_refusal-bad.ensures c.if-bad-ne-PASSED.false _
+    (damaged_is _ _ _ _ _ c.open-o.ensures c.number_of-damaged.ensures) c.if-damaged-ne-PASSED.false _ c.refusal.ensures
 
-pub refusal-at-spec : {M : Type 1} → statement M
-refusal-at-spec =
+pub refusal_at_spec : {M : Type 1} → statement M
+refusal_at_spec =
     tie.close
     (tie.spec
     front-refusal-requires

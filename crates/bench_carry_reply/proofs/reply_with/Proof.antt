@@ -13,91 +13,91 @@ use Rattle.bench_limits.specs.Limits.{stripe_room, kept_room, row_bytes, block_p
 fetch-requires : tie.Need-fetch-requires
 fetch-requires c κs = search rules
 
-coordinator-at-requires : tie.Need-coordinator-at-requires
+coordinator-at-requires : tie.Need-coordinator_at-old-requires
 coordinator-at-requires c κs = search rules
 
-mul-from : tie.Need-overflow-mul-from
-mul-from c = let s = c.before.before.before.before.before.before.before.before.before.before.before.before.before.before.before.before.before in
+mul-from : tie.Need-overflow_mul-from
+mul-from c = let s = c in
     omega (arith, s.requires.0.few, s.requires.1.1.0)
 
-add-from : tie.Need-overflow-add-from
-add-from c = let s = c.before.before.before.before.before.before.before.before.before.before.before.before.before.before.before.before.before in
+add-from : tie.Need-overflow_add-from
+add-from c = let s = c in
     omega (arith, s.requires.0.few, s.requires.1.1.0)
 
-add-till : tie.Need-overflow-add-till
-add-till c = let s = c.before.before.before.before.before.before.before.before.before.before.before.before.before.before.before.before.before.before in
+add-till : tie.Need-overflow_add-till
+add-till c = let s = c in
     omega (arith, s.requires.0.few, s.requires.1.1.0, s.requires.0.fits.size_fits)
 
-sub-take-reply : tie.Need-overflow-sub-take-reply
+sub-take-reply : tie.Need-slice_bounds-take_reply-count
 sub-take-reply c = search rules
 
-part-take-reply-start : tie.Need-slice-bounds-take-reply-start
+part-take-reply-start : tie.Need-slice_bounds-take_reply-start
 part-take-reply-start c = search rules
 
-part-take-reply-end : tie.Need-slice-bounds-take-reply-end
-part-take-reply-end c = let s = c.before.before.before.before.before.before.before.before.before.before.before.before.before.before.before.before.before.before.before in
+part-take-reply-end : tie.Need-slice_bounds-take_reply-end
+part-take-reply-end c = let s = c in
     omega (arith, s.requires.0.few, s.requires.1.1.0, s.requires.0.fits.size_fits, s.requires.0.bytes-long)
 
-take-reply-requires : tie.Need-take-reply-requires
+take-reply-requires : tie.Need-take_reply-a-requires
 take-reply-requires c κs = search rules
 
 commit-requires : tie.Need-commit-requires
 commit-requires c κs =
-    let s = c.before.before.before.before.before.before.before.before.before.before.before.before.before.before.before.before.before.before.before.before.before.before.before.before.before.before.before.before.before.before.before.before.before.before.before.before.before in
-    let f = c.before.before.before.before.before.before.before.before.before.before.before.before.before.before.before.before.before.before.before.before.before.before.before.before.before.before.fetch.auto in
-    let t = c.before.before.before.before.before.before.before.before.before.before.before.before.before.take-reply.auto in (
-      s.pre.0,
+    let s = c in
+    let f = c.fetch.auto in
+    let t = c.take_reply-a.auto in (
+      s.requires.0,
       (
         record {
-          blocks-long = t.1.1.1.1.1.1.1.0 ∙ f.1.1.0 ∙ s.pre.1.0.blocks-long;
-          stripe-long = t.1.1.1.1.1.1.1.1.0 ∙ f.1.1.1.0 ∙ s.pre.1.0.stripe-long;
-          coded-long = t.1.1.1.1.1.1.1.1.1.0 ∙ s.pre.1.0.coded-long;
+          blocks-long = t.blocks ∙ f.blocks ∙ s.requires.1.0.blocks-long;
+          stripe-long = t.stripe ∙ f.stripe ∙ s.requires.1.0.stripe-long;
+          coded-long = t.coded ∙ s.requires.1.0.coded-long;
         },
-        take_lists _ _ _ _ _ _ _ _ _ _ _ _ _ _ c.before.before.before.before.before.before.before.before.before.before.before.before.before.take-reply.ensures,
+        take_lists _ _ _ _ _ _ _ _ _ _ _ _ _ _ c.take_reply-a.ensures,
       ),
     )
 
-same_length : tie.Need-same-length
-same_length c = c.before.before.before.before.before.before.before.before.before.before.before.before.before.before.before.before.before.before.before.before.before.before.take-reply.auto.1.1.1.1.1.1.1.0
-    ∙ c.before.before.before.before.before.before.before.before.before.before.before.before.before.before.before.before.before.before.before.before.before.before.before.before.before.before.before.before.before.before.before.before.before.before.before.fetch.auto.1.1.0
+same_length : tie.Need-shape_of-blocks
+same_length c = c.take_reply-a.auto.blocks
+    ∙ c.fetch.auto.blocks
 
-same-length-2 : tie.Need-same-length-2
-same-length-2 c = c.before.before.before.before.before.before.before.before.before.before.before.before.before.before.before.before.before.before.before.before.before.before.take-reply.auto.1.1.1.1.1.1.1.1.0
-    ∙ c.before.before.before.before.before.before.before.before.before.before.before.before.before.before.before.before.before.before.before.before.before.before.before.before.before.before.before.before.before.before.before.before.before.before.before.fetch.auto.1.1.1.0
+same-length-2 : tie.Need-shape_of-stripe
+same-length-2 c = c.take_reply-a.auto.stripe
+    ∙ c.fetch.auto.stripe
 
-same-length-3 : tie.Need-same-length-3
+same-length-3 : tie.Need-shape_of-coded
 same-length-3 c = search rules
 
-same-length-4 : tie.Need-same-length-4
+same-length-4 : tie.Need-shape_of-kept
 same-length-4 c = search rules
 
-same-length-5 : tie.Need-same-length-5
+same-length-5 : tie.Need-shape_of-numbers
 same-length-5 c = search rules
 
-same-length-6 : tie.Need-same-length-6
+same-length-6 : tie.Need-shape_of-bytes
 same-length-6 c = search rules
 
-same-length-7 : tie.Need-same-length-7
+same-length-7 : tie.Need-shape_of-out
 same-length-7 c = search rules
 
 returns : tie.Need-returns
 returns c =
-    let s = c.before.before.before.before.before.before.before.before.before.before.before.before.before.before.before.before.before.before.before.before.before.before.before.before.before.before.before.before.before.before.before.before.before.before.before.before.before.before.before.before.before.before.before.before.before.before in
+    let s = c in
     let k = s.args.kept.now in
     let z = s.args.b.settings.size in
-    let e = c.before.before.before.before.before.before.before.before.before.before.before.before.before.before.before.before.before.before.before.before.before.before.take-reply.ensures in
-    acted_row s.args.b s.args.c k s.args.numbers.now s.args.bytes.now s.args.at s.args.out.now _ _ _ _ _ _ _ _ s.pre.0.low
-    c.before.before.before.before.before.before.before.before.before.before.before.before.before.before.before.before.before.before.before.before.before.before.before.before.before.before.before.before.before.coordinator-at.ensures.0
-    (c.before.before.before.before.before.before.before.before.before.before.before.before.before.before.before.before.before.before.before.before.before.before.before.before.before.before.before.before.before.before.before.before.before.before.before.fetch.ensures.0
-    ∙ ap (λ (j : ℕ). take j (drop (s.args.c * kept_room) k)) s.pre.1.0.blocks-long)
-    (c.before.before.before.before.before.before.before.before.before.before.before.before.before.before.before.before.before.before.before.before.before.before.before.before.before.before.before.before.before.before.before.before.before.before.before.fetch.ensures.1
-    ∙ ap (λ (j : ℕ). take j (drop (s.args.c * kept_room + stripe_room) k)) s.pre.1.0.stripe-long)
-    s.args.k s.args.reply _ _ s.args.coded.now _ _ _ s.pre.1.1.0 s.pre.1.1.1 s.pre.1.1.2
+    let e = c.take_reply-a.ensures in
+    acted_row s.args.b s.args.c k s.args.numbers.now s.args.bytes.now s.args.at s.args.out.now _ _ _ _ _ _ _ _ s.requires.0.low
+    c.coordinator_at-old.ensures.0
+    (c.fetch.ensures.0
+    ∙ ap (λ (j : ℕ). take j (drop (s.args.c * kept_room) k)) s.requires.1.0.blocks-long)
+    (c.fetch.ensures.1
+    ∙ ap (λ (j : ℕ). take j (drop (s.args.c * kept_room + stripe_room) k)) s.requires.1.0.stripe-long)
+    s.args.k s.args.reply _ _ s.args.coded.now _ _ _ s.requires.1.1.0 s.requires.1.1.1 s.requires.1.1.2
     (block_cut z s.args.k (s.args.k * row_bytes + block_place) (s.args.k * row_bytes + block_place + z) s.args.bytes.now refl refl)
-    s.pre.1.1.3 s.pre.1.0.coded-long e c.before.before.before.before.before.before.before.before.commit.ensures
+    s.requires.1.1.3 s.requires.1.0.coded-long e c.commit.ensures
 
-pub reply-with-spec : {M : Type 1} → statement M
-reply-with-spec =
+pub reply_with_spec : {M : Type 1} → statement M
+reply_with_spec =
     tie.close
     (tie.spec
     fetch-requires

@@ -4,11 +4,11 @@ use borrow.Author.Rules.{rules}
 use Rattle.bench_player.proofs.no_set.Statement.{statement}
 use Rattle.bench_player.proofs.no_set.Tie as tie
 
-new-bench-requires : tie.Need-new-bench-requires
+new-bench-requires : tie.Need-new_bench-requires
 new-bench-requires c κs = search rules
 
 returns : tie.Need-returns
-returns c = (λ l events. none_waits _ _ l events c.new-bench.ensures refl, none_accepted _ _ c.new-bench.ensures refl)
+returns c = (λ l events. none_waits _ _ l events c.new_bench.ensures refl, none_accepted _ _ c.new_bench.ensures refl)
 
-pub no-set-spec : {M : Type 1} → statement M
-no-set-spec = tie.close (tie.spec new-bench-requires returns)
+pub no_set_spec : {M : Type 1} → statement M
+no_set_spec = tie.close (tie.spec new-bench-requires returns)

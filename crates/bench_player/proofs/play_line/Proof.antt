@@ -5,90 +5,90 @@ use borrow.Author.Rules.{rules}
 use Rattle.bench_player.proofs.play_line.Statement.{statement}
 use Rattle.bench_player.proofs.play_line.Tie as tie
 
-bench-refused-requires : tie.Need-bench-refused-requires
+bench-refused-requires : tie.Need-bench_refused-bad-requires
 bench-refused-requires c κs = search rules
 
-returns : tie.Need-returns
+returns : tie.Need-returns-then-bad-ne-PASSED
 returns c =
-    let s = c.before.before.before.before.before.before.before.before in
+    let s = c in
     called_refused s.args.b (lent s.args.images.now s.args.kept.now s.args.numbers.now s.args.bytes.now) s.args.line.now s.args.out.now _
-    c.before.bench-refused.ensures c.if1.true
+    c.bench_refused-bad.ensures c.if-bad-ne-PASSED.true
 
-read-line-requires : tie.Need-read-line-requires
+read-line-requires : tie.Need-read_line-l-requires
 read-line-requires c κs = search rules
 
-play-first-requires : tie.Need-play-first-requires
+play-first-requires : tie.Need-play_first-first-requires
 play-first-requires c κs =
-    let s = c.before.before.before.before.before.before.before.before.before.before.before.before.before.before.before in
-    let a = accepted _ _ _ _ _ s.args.b _ c.before.before.before.before.before.before.before.before.bench-refused.ensures
-    c.before.before.before.before.before.before.before.if1.false in
-    let e = c.before.before.before.before.before.before.read-line.ensures in
-    ((e.0, e.1), ((c.before.before.before.if2.true, a.few), (a.images-long, a.kept-long, a.out-long)))
+    let s = c in
+    let a = accepted _ _ _ _ _ s.args.b _ c.bench_refused-bad.ensures
+    c.if-bad-ne-PASSED.false in
+    let e = c.read_line-l.ensures in
+    ((e.0, e.1), ((c.if-s-eq0.true, a.few), (a.images-long, a.kept-long, a.out-long)))
 
-same_length : tie.Need-same-length
+same_length : tie.Need-shape_of-images-then-s-eq0
 same_length c = search rules
 
-same-length-2 : tie.Need-same-length-2
+same-length-2 : tie.Need-shape_of-kept-then-s-eq0
 same-length-2 c = search rules
 
-same-length-3 : tie.Need-same-length-3
+same-length-3 : tie.Need-shape_of-out-then-s-eq0
 same-length-3 c = search rules
 
-returns-2 : tie.Need-returns-2
+returns-2 : tie.Need-returns-then-s-eq0
 returns-2 c =
-    let s = c.before.before.before.before.before.before.before.before.before.before.before.before.before.before.before.before.before.before.before.before.before.before.before in
-    let k = c.before.before.before.before.before.before.before.play-first.auto in
+    let s = c in
+    let k = c.play_first-first.auto in
     called_first s.args.b (lent s.args.images.now s.args.kept.now s.args.numbers.now s.args.bytes.now) s.args.line.now s.args.out.now _
-    c.before.before.before.before.before.before.before.play-first.result _ _ _
-    c.before.before.before.before.before.before.before.before.before.before.before.before.before.before.before.before.bench-refused.ensures
-    c.before.before.before.before.before.before.before.before.before.before.before.before.before.before.before.if1.false
-    c.before.before.before.before.before.before.before.before.before.before.before.if2.true c.before.before.before.before.before.before.before.play-first.ensures
-    k.1.1.1.0 k.1.1.1.1.0 k.1.1.1.1.1.0
+    c.play_first-first.result _ _ _
+    c.bench_refused-bad.ensures
+    c.if-bad-ne-PASSED.false
+    c.if-s-eq0.true c.play_first-first.ensures
+    k.images k.kept k.out
 
-play-next-requires : tie.Need-play-next-requires
+play-next-requires : tie.Need-play_next-r-requires
 play-next-requires c κs =
-    let s = c.before.before.before.before.before.before.before.before.before.before.before.before.before.before.before.before.before in
-    let b = c.before.before.before.before.before.before.before.before.before.before.bench-refused.ensures in
-    let z = c.before.before.before.before.before.before.before.before.before.if1.false in
+    let s = c in
+    let b = c.bench_refused-bad.ensures in
+    let z = c.if-bad-ne-PASSED.false in
     let a = accepted _ _ _ _ _ s.args.b _ b z in
-    let e = c.before.before.before.before.before.before.before.before.read-line.ensures in (
+    let e = c.read_line-l.ensures in (
       (e.0, e.1),
       (
         accepted_ready s.args.b (lent s.args.images.now s.args.kept.now s.args.numbers.now s.args.bytes.now) (length s.args.out.now) _ b z
-            c.before.before.before.before.before.if2.false,
+            c.if-s-eq0.false,
         a.out-long,
       ),
     )
 
-same-length-4 : tie.Need-same-length-4
+same-length-4 : tie.Need-shape_of-images
 same-length-4 c = search rules
 
-same-length-5 : tie.Need-same-length-5
+same-length-5 : tie.Need-shape_of-kept
 same-length-5 c = search rules
 
-same-length-6 : tie.Need-same-length-6
+same-length-6 : tie.Need-shape_of-numbers
 same-length-6 c = search rules
 
-same-length-7 : tie.Need-same-length-7
+same-length-7 : tie.Need-shape_of-bytes
 same-length-7 c = search rules
 
-same-length-8 : tie.Need-same-length-8
+same-length-8 : tie.Need-shape_of-out
 same-length-8 c = search rules
 
-returns-3 : tie.Need-returns-3
+returns-3 : tie.Need-returns
 returns-3 c =
-    let s = c.before.before.before.before.before.before.before.before.before.before.before.before.before.before.before.before.before.before.before.before.before.before.before.before.before.before.before.before.before in
-    let k = c.before.before.before.before.before.before.before.before.before.before.before.play-next.auto in
+    let s = c in
+    let k = c.play_next-r.auto in
     called_next s.args.b (lent s.args.images.now s.args.kept.now s.args.numbers.now s.args.bytes.now) s.args.line.now s.args.out.now _
-    c.before.before.before.before.before.before.before.before.before.before.before.play-next.result _ _
-    c.before.before.before.before.before.before.before.before.before.before.before.before.before.before.before.before.before.before.before.before.before.before.bench-refused.ensures
-    c.before.before.before.before.before.before.before.before.before.before.before.before.before.before.before.before.before.before.before.before.before.if1.false
-    c.before.before.before.before.before.before.before.before.before.before.before.before.before.before.before.before.before.if2.false
-    c.before.before.before.before.before.before.before.before.before.before.before.play-next.ensures k.1.1.1.0 k.1.1.1.1.0 k.1.1.1.1.1.0
-    k.1.1.1.1.1.1.0 k.1.1.1.1.1.1.1.0
+    c.play_next-r.result _ _
+    c.bench_refused-bad.ensures
+    c.if-bad-ne-PASSED.false
+    c.if-s-eq0.false
+    c.play_next-r.ensures k.images k.kept k.numbers
+    k.bytes k.out
 
-pub play-line-spec : {M : Type 1} → statement M
-play-line-spec =
+pub play_line_spec : {M : Type 1} → statement M
+play_line_spec =
     tie.close
     (tie.spec
     bench-refused-requires

@@ -12,51 +12,51 @@ use Rattle.bench_limits.specs.Limits.{stripe_room, kept_room}
 fetch-requires : tie.Need-fetch-requires
 fetch-requires c κs = search rules
 
-coordinator-at-requires : tie.Need-coordinator-at-requires
+coordinator-at-requires : tie.Need-coordinator_at-old-requires
 coordinator-at-requires c κs = search rules
 
-start-read-requires : tie.Need-start-read-requires
+start-read-requires : tie.Need-start_read-a-requires
 start-read-requires c κs = search rules
 
 commit-requires : tie.Need-commit-requires
 commit-requires c κs =
-    let s = c.before.before.before.before.before.before.before.before.before.before.before.before.before.before.before.before.before.before.before.before.before.before.before in
-    let f = c.before.before.before.before.before.before.before.before.before.before.before.before.before.fetch.auto in
-    let long = f.1.1.0 ∙ s.requires.1.blocks-long in
-    let lists = read_lists _ _ _ _ _ _ _ _ _ _ _ _ _ _ _ (c.before.before.before.before.before.before.start-read.ensures [] [] []) in
-    (s.requires.0, (record { blocks-long = long; stripe-long = f.1.1.1.0 ∙ s.requires.1.stripe-long; coded-long = long }, lists))
+    let s = c in
+    let f = c.fetch.auto in
+    let long = f.blocks ∙ s.requires.1.blocks-long in
+    let lists = read_lists _ _ _ _ _ _ _ _ _ _ _ _ _ _ _ (c.start_read-a.ensures [] [] []) in
+    (s.requires.0, (record { blocks-long = long; stripe-long = f.stripe ∙ s.requires.1.stripe-long; coded-long = long }, lists))
 
-same_length : tie.Need-same-length
-same_length c = c.before.before.before.before.before.before.before.before.before.before.before.before.before.before.before.before.before.before.before.before.before.before.fetch.auto.1.1.0
+same_length : tie.Need-shape_of-blocks
+same_length c = c.fetch.auto.blocks
 
-same-length-2 : tie.Need-same-length-2
-same-length-2 c = c.before.before.before.before.before.before.before.before.before.before.before.before.before.before.before.before.before.before.before.before.before.before.fetch.auto.1.1.1.0
+same-length-2 : tie.Need-shape_of-stripe
+same-length-2 c = c.fetch.auto.stripe
 
-same-length-3 : tie.Need-same-length-3
+same-length-3 : tie.Need-shape_of-kept
 same-length-3 c = search rules
 
-same-length-4 : tie.Need-same-length-4
+same-length-4 : tie.Need-shape_of-numbers
 same-length-4 c = search rules
 
-same-length-5 : tie.Need-same-length-5
+same-length-5 : tie.Need-shape_of-bytes
 same-length-5 c = search rules
 
-same-length-6 : tie.Need-same-length-6
+same-length-6 : tie.Need-shape_of-out
 same-length-6 c = search rules
 
 returns : tie.Need-returns
 returns c =
-    let s = c.before.before.before.before.before.before.before.before.before.before.before.before.before.before.before.before.before.before.before.before.before.before.before.before.before.before.before.before.before.before.before.before in
+    let s = c in
     let k = s.args.kept.now in
-    acted_read s.args.b s.args.c k s.args.numbers.now s.args.bytes.now 0 s.args.out.now _ _ _ _ _ _ _ _ s.pre.0.low
-    c.before.before.before.before.before.before.before.before.before.before.before.before.before.before.before.before.coordinator-at.ensures.0
-    (c.before.before.before.before.before.before.before.before.before.before.before.before.before.before.before.before.before.before.before.before.before.before.fetch.ensures.0 ∙ ap (λ (j : ℕ). take j (drop (s.args.c * kept_room) k)) s.pre.1.blocks-long)
-    (c.before.before.before.before.before.before.before.before.before.before.before.before.before.before.before.before.before.before.before.before.before.before.fetch.ensures.1 ∙ ap (λ (j : ℕ). take j (drop (s.args.c * kept_room + stripe_room) k)) s.pre.1.stripe-long)
-    s.args.clock s.args.brick _ c.before.before.before.before.before.before.before.before.before.before.before.before.before.before.before.start-read.ensures
-    c.before.before.before.before.before.before.before.before.commit.ensures
+    acted_read s.args.b s.args.c k s.args.numbers.now s.args.bytes.now 0 s.args.out.now _ _ _ _ _ _ _ _ s.requires.0.low
+    c.coordinator_at-old.ensures.0
+    (c.fetch.ensures.0 ∙ ap (λ (j : ℕ). take j (drop (s.args.c * kept_room) k)) s.requires.1.blocks-long)
+    (c.fetch.ensures.1 ∙ ap (λ (j : ℕ). take j (drop (s.args.c * kept_room + stripe_room) k)) s.requires.1.stripe-long)
+    s.args.clock s.args.brick _ c.start_read-a.ensures
+    c.commit.ensures
 
-pub read-with-spec : {M : Type 1} → statement M
-read-with-spec =
+pub read_with_spec : {M : Type 1} → statement M
+read_with_spec =
     tie.close
     (tie.spec
     fetch-requires

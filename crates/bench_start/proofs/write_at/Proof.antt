@@ -10,72 +10,72 @@ use Rattle.bench_start.proofs.write_at.Tie as tie
 refuse-requires : tie.Need-refuse-requires
 refuse-requires c κs = search rules
 
-same_length : tie.Need-same-length
+same_length : tie.Need-shape_of-out-then-c-ge-COORDINATORS
 same_length c = search rules
 
-returns : tie.Need-returns
+returns : tie.Need-returns-then-c-ge-COORDINATORS
 returns c =
-    let s = c.before.before.before.before.before.before.before.before.before.before in
+    let s = c in
     write_past s.args.b s.args.c s.args.kept.now s.args.numbers.now s.args.bytes.now 0 s.args.out.now _ s.args.clock (drop s.args.hex s.args.line.now) _
-    (omega (arith, c.before.before.before.before.if1.true)) c.before.before.refuse.ensures
+    (omega (arith, c.if-c-ge-COORDINATORS.true)) c.refuse.ensures
 
-mul-data : tie.Need-overflow-mul-data
+mul-data : tie.Need-overflow_mul-data
 mul-data c = search rules
 
-mul-all : tie.Need-overflow-mul-all
+mul-all : tie.Need-overflow_mul-all
 mul-all c = search rules
 
-array-borrow-prefix-content : tie.Need-array-borrow-prefix-content
+array-borrow-prefix-content : tie.Need-slice_bounds-content-end
 array-borrow-prefix-content c = search rules
 
-slice-aggregate-write-with : tie.Need-slice-aggregate-write-with
-slice-aggregate-write-with c = front_long _ c.before.before.before.before.before.before.before.before.before.before.requires.0.fits.small.stripe-fits
+slice-aggregate-write-with : tie.Need-slice_bounds-write_with-end
+slice-aggregate-write-with c = front_long _ c.requires.0.fits.small.stripe-fits
 
-array-borrow-prefix-blocks : tie.Need-array-borrow-prefix-blocks
+array-borrow-prefix-blocks : tie.Need-slice_bounds-blocks-end
 array-borrow-prefix-blocks c = search rules
 
-slice-aggregate-write-with-2 : tie.Need-slice-aggregate-write-with-2
-slice-aggregate-write-with-2 c = front_long _ c.before.before.before.before.before.before.before.before.before.before.before.requires.0.fits.small.blocks-fit
+slice-aggregate-write-with-2 : tie.Need-slice_bounds-write_with-end-2
+slice-aggregate-write-with-2 c = front_long _ c.requires.0.fits.small.blocks-fit
 
-array-borrow-prefix-stripe : tie.Need-array-borrow-prefix-stripe
+array-borrow-prefix-stripe : tie.Need-slice_bounds-stripe-end
 array-borrow-prefix-stripe c = search rules
 
-slice-aggregate-write-with-3 : tie.Need-slice-aggregate-write-with-3
-slice-aggregate-write-with-3 c = front_long _ c.before.before.before.before.before.before.before.before.before.before.before.before.requires.0.fits.small.stripe-fits
+slice-aggregate-write-with-3 : tie.Need-slice_bounds-write_with-end-3
+slice-aggregate-write-with-3 c = front_long _ c.requires.0.fits.small.stripe-fits
 
-write-with-requires : tie.Need-write-with-requires
+write-with-requires : tie.Need-write_with-requires
 write-with-requires c κs =
-    let s = c.before.before.before.before.before.before.before.before.before.before.before.before.before.before.before.before in
+    let s = c in
     let long = sym (front_long _ s.requires.0.fits.small.blocks-fit) in (
       seat_at s.args.b 0 s.args.c s.args.kept.now s.args.numbers.now s.args.bytes.now 0 s.args.out.now s.requires.0
-          c.before.before.before.before.before.before.before.before.before.before.if1.false,
+          c.if-c-ge-COORDINATORS.false,
       (
         record { blocks-long = long; stripe-long = sym (front_long _ s.requires.0.fits.small.stripe-fits); coded-long = long },
         (s.requires.1, front_zeros _ s.requires.0.fits.small.stripe-fits),
       ),
     )
 
-same-length-2 : tie.Need-same-length-2
+same-length-2 : tie.Need-shape_of-kept
 same-length-2 c = search rules
 
-same-length-3 : tie.Need-same-length-3
+same-length-3 : tie.Need-shape_of-numbers
 same-length-3 c = search rules
 
-same-length-4 : tie.Need-same-length-4
+same-length-4 : tie.Need-shape_of-bytes
 same-length-4 c = search rules
 
-same-length-5 : tie.Need-same-length-5
+same-length-5 : tie.Need-shape_of-out
 same-length-5 c = search rules
 
-returns-2 : tie.Need-returns-2
+returns-2 : tie.Need-returns
 returns-2 c =
-    let s = c.before.before.before.before.before.before.before.before.before.before.before.before.before.before.before.before.before.before.before.before.before.before.before.before.before.before.before.before in
+    let s = c in
     write_here s.args.b s.args.c s.args.kept.now s.args.numbers.now s.args.bytes.now 0 s.args.out.now _ s.args.clock (drop s.args.hex s.args.line.now) _ _ _ _
-    c.before.before.before.before.before.before.before.before.before.before.before.before.before.before.before.before.before.before.before.before.before.before.if1.false
-    c.before.before.before.before.before.before.before.before.before.before.before.write-with.ensures
+    c.if-c-ge-COORDINATORS.false
+    c.write_with.ensures
 
-pub write-at-spec : {M : Type 1} → statement M
-write-at-spec =
+pub write_at_spec : {M : Type 1} → statement M
+write_at_spec =
     tie.close
     (tie.spec
     refuse-requires

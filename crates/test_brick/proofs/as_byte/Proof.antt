@@ -4,17 +4,17 @@ use borrow.Author.Rules.{rules}
 use Rattle.test_brick.proofs.as_byte.Statement.{statement}
 use Rattle.test_brick.proofs.as_byte.Tie as tie
 
-cast-result : tie.Need-overflow-cast-result
+cast-result : tie.Need-overflow_cast-result
 cast-result c = search rules
 
-returns : tie.Need-returns
+returns : tie.Need-returns-then-k-le-LAST_BYTE
 returns c = byte_small _ (omega arith)
 
-cast-result-2 : tie.Need-overflow-cast-result-2
+cast-result-2 : tie.Need-overflow_cast-result-2
 cast-result-2 c = search rules
 
-returns-2 : tie.Need-returns-2
+returns-2 : tie.Need-returns
 returns-2 c = byte_large _ (omega arith)
 
-pub as-byte-spec : {M : Type 1} → statement M
-as-byte-spec = tie.close (tie.spec cast-result returns cast-result-2 returns-2)
+pub as_byte_spec : {M : Type 1} → statement M
+as_byte_spec = tie.close (tie.spec cast-result returns cast-result-2 returns-2)

@@ -7,48 +7,48 @@ use Rattle.test_brick.specs.BrickBoundary.{as_byte, as_bytes}
 use Rattle.test_brick.proofs.as_bytes.Statement.{statement}
 use Rattle.test_brick.proofs.as_bytes.Tie as tie
 
-abbrev invariant-loop : tie.invariant-loop
+abbrev invariant-loop : tie.invariant-loop-i
 invariant-loop l at out₀ i₀ out i = Filled (λ (p : ℕ). as_byte (get_or l (at + p) 0)) out₀ out i × (i ≤ length out₀)
 
-abbrev decreases-loop : tie.decreases-loop
+abbrev decreases-loop : tie.decreases-loop-i
 decreases-loop l at out₀ i₀ out i = length out₀ - i
 
-loop-holds : tie.Need-loop-init invariant-loop decreases-loop
+loop-holds : tie.Need-loop-i-init invariant-loop decreases-loop
 loop-holds c = (filled_none _ _, omega arith)
 
-add-as-byte : tie.Need-overflow-add-as-byte invariant-loop decreases-loop
+add-as-byte : tie.Need-overflow_add-at invariant-loop decreases-loop
 add-as-byte c = omega arith
 
-mul-as-byte : tie.Need-overflow-mul-as-byte invariant-loop decreases-loop
+mul-as-byte : tie.Need-offset_bounds-l-at invariant-loop decreases-loop
 mul-as-byte c = search rules
 
-shared-slice-read-as-byte : tie.Need-shared-slice-read-as-byte invariant-loop decreases-loop
+shared-slice-read-as-byte : tie.Need-bounds-l-at invariant-loop decreases-loop
 shared-slice-read-as-byte c = omega arith
 
-as-byte-requires : tie.Need-as-byte-requires invariant-loop decreases-loop
+as-byte-requires : tie.Need-as_byte-requires invariant-loop decreases-loop
 as-byte-requires c κs = search rules
 
-slice-write-out : tie.Need-slice-write-out invariant-loop decreases-loop
+slice-write-out : tie.Need-bounds-out-i invariant-loop decreases-loop
 slice-write-out c = omega arith
 
-add-i : tie.Need-overflow-add-i invariant-loop decreases-loop
+add-i : tie.Need-overflow_add-i invariant-loop decreases-loop
 add-i c = omega arith
 
-loop-less : tie.Need-loop-smaller invariant-loop decreases-loop
+loop-less : tie.Need-loop-i-smaller invariant-loop decreases-loop
 loop-less c = omega arith
 
-loop-again : tie.Need-loop-preserved invariant-loop decreases-loop
-loop-again c = (filled_more _ _ _ _ _ c.before.before.before.loop.invariant.0 (omega arith) c.as_byte.ensures, omega arith)
+loop-again : tie.Need-loop-i-preserved invariant-loop decreases-loop
+loop-again c = (filled_more _ _ _ _ _ c.loop-i.invariant.0 (omega arith) c.as_byte.ensures, omega arith)
 
-same_length : tie.Need-same-length invariant-loop decreases-loop
-same_length c = c.before.loop.invariant.0.size
+same_length : tie.Need-shape_of-out invariant-loop decreases-loop
+same_length c = c.loop-i.invariant.0.size
 
 returns : tie.Need-returns invariant-loop decreases-loop
 unfolding as_bytes
-returns c = filled_all _ _ _ _ c.before.loop.invariant.0 (omega arith)
+returns c = filled_all _ _ _ _ c.loop-i.invariant.0 (omega arith)
 
-pub as-bytes-spec : {M : Type 1} → statement M
-as-bytes-spec =
+pub as_bytes_spec : {M : Type 1} → statement M
+as_bytes_spec =
     tie.close
     (tie.spec
     invariant-loop

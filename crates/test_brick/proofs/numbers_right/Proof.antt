@@ -3,11 +3,11 @@ use borrow.Author.Rules.{rules}
 use Rattle.test_brick.proofs.numbers_right.Statement.{statement}
 use Rattle.test_brick.proofs.numbers_right.Tie as tie
 
-returns : tie.Need-returns
+returns : tie.Need-returns-then-asked-ne-MESSAGE_LENGTH
 returns c = search (rules, numbers_none)
 
-returns-2 : tie.Need-returns-2
+returns-2 : tie.Need-returns
 returns-2 c = search (rules, numbers_asked)
 
-pub numbers-right-spec : {M : Type 1} → statement M
-numbers-right-spec = tie.close (tie.spec returns returns-2)
+pub numbers_right_spec : {M : Type 1} → statement M
+numbers_right_spec = tie.close (tie.spec returns returns-2)

@@ -3,14 +3,14 @@ use borrow.Author.Rules.{rules}
 use Rattle.test_brick.proofs.volume_fresh.Statement.{statement}
 use Rattle.test_brick.proofs.volume_fresh.Tie as tie
 
-write-fresh-requires : tie.Need-write-fresh-requires
+write-fresh-requires : tie.Need-write_fresh-requires
 write-fresh-requires c κs = search rules
 
-same_length : tie.Need-same-length
+same_length : tie.Need-shape_of-images
 same_length c = search rules
 
 returns : tie.Need-returns
-returns c = fresh_is _ _ _ _ c.before.before.write-fresh.ensures.0 c.before.before.write-fresh.ensures.1
+returns c = fresh_is _ _ _ _ c.write_fresh.ensures.0 c.write_fresh.ensures.1
 
-pub volume-fresh-spec : {M : Type 1} → statement M
-volume-fresh-spec = tie.close (tie.spec write-fresh-requires same_length returns)
+pub volume_fresh_spec : {M : Type 1} → statement M
+volume_fresh_spec = tie.close (tie.spec write-fresh-requires same_length returns)

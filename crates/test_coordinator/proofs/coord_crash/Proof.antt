@@ -8,52 +8,51 @@ use borrow.Author.Rules.{rules}
 use Rattle.test_coordinator.proofs.coord_crash.Statement.{statement}
 use Rattle.test_coordinator.proofs.coord_crash.Tie as tie
 
-lent-refusal-requires : tie.Need-lent-refusal-requires
+lent-refusal-requires : tie.Need-lent_refusal-refusal-requires
 lent-refusal-requires c κs = search rules
 
-returns : tie.Need-returns
-returns c = crossed_refused _ _ _ _ _ _ _ _ _ _ c.before.lent-refusal.ensures c.if1.true
+returns : tie.Need-returns-then-refusal-ne-PASSED
+returns c = crossed_refused _ _ _ _ _ _ _ _ _ _ c.lent_refusal-refusal.ensures c.if-refusal-ne-PASSED.true
 
 -- the four buffers have their lengths
-long : (c : tie.Else1) → Lengths (length c.before.before.before.before.before.before.args.numbers.now) (length c.before.before.before.before.before.before.args.bytes.now)
-    (length c.before.before.before.before.before.before.args.sent.now) (length c.before.before.before.before.before.before.args.shown.now)
-long c = lengths _ _ _ _ _ _ _ _ _ c.before.lent-refusal.ensures c.if1.false
+long : (c : tie.Else-refusal-ne-PASSED) → Lengths (length c.args.numbers.now) (length c.args.bytes.now)
+    (length c.args.sent.now) (length c.args.shown.now)
+long c = lengths _ _ _ _ _ _ _ _ _ c.lent_refusal-refusal.ensures c.if-refusal-ne-PASSED.false
 
-record-of-requires : tie.Need-record-of-requires
-record-of-requires c κs = ((long c.before.before).numbers-long, (long c.before.before).bytes-long)
+record-of-requires : tie.Need-record_of-c-requires
+record-of-requires c κs = ((long c).numbers-long, (long c).bytes-long)
 
-crash-requires : tie.Need-crash-requires
+crash-requires : tie.Need-crash-a-requires
 crash-requires c κs = search rules
 
-put-answer-requires : tie.Need-put-answer-requires
+put-answer-requires : tie.Need-put_answer-requires
 put-answer-requires c κs =
-    let l = long c.before.before.before.before.before.before.before.before in (l.numbers-long, (l.bytes-long, (l.sent-long, l.shown-long)))
+    let l = long c.before.before.before.before.before.before in (l.numbers-long, (l.bytes-long, (l.sent-long, l.shown-long)))
 
-same_length : tie.Need-same-length
+same_length : tie.Need-shape_of-numbers
 same_length c = search rules
 
-same-length-2 : tie.Need-same-length-2
+same-length-2 : tie.Need-shape_of-bytes
 same-length-2 c = search rules
 
-same-length-3 : tie.Need-same-length-3
+same-length-3 : tie.Need-shape_of-sent
 same-length-3 c = search rules
 
-same-length-4 : tie.Need-same-length-4
+same-length-4 : tie.Need-shape_of-shown
 same-length-4 c = search rules
 
-returns-2 : tie.Need-returns-2
+returns-2 : tie.Need-returns
 returns-2 c =
-    let whole =
-    c.before.before.before.before.before.before.before.before.before.before.before.before.before.before.before.before.before in
-    let s = whole.before.before.before.before.before.before.args in
-    let q = c.before.before.before.before.before.before.before.before.before.before.before.before.before.before.record_of.ensures in
-    let w = c.before.before.before.before.before.before.before.before.before.before.before.before.before.crash.ensures [] [] [] in
-    let p = c.before.before.before.before.before.before.before.before.put-answer.ensures in
-    crossed _ _ _ _ _ _ _ _ _ _ _ _ _ _ _ _ whole.before.lent-refusal.ensures whole.if1.left
+    let whole = c in
+    let s = whole.args in
+    let q = c.record_of-c.ensures in
+    let w = c.crash-a.ensures [] [] [] in
+    let p = c.put_answer.ensures in
+    crossed _ _ _ _ _ _ _ _ _ _ _ _ _ _ _ _ whole.lent_refusal-refusal.ensures whole.if-refusal-ne-PASSED.false
     (w ∙ ap (λ (x : Coordinator). crash_call s.n s.m s.size s.stripes x [] [] []) q) p.0 p.1
 
-pub coord-crash-spec : {M : Type 1} → statement M
-coord-crash-spec =
+pub coord_crash_spec : {M : Type 1} → statement M
+coord_crash_spec =
     tie.close
     (tie.spec
     lent-refusal-requires

@@ -4,35 +4,35 @@ use borrow.Author.Rules.{rules}
 use Rattle.test_coordinator.proofs.put_times.Statement.{statement}
 use Rattle.test_coordinator.proofs.put_times.Tie as tie
 
-add-end : tie.Need-overflow-add-end
+add-end : tie.Need-overflow_add-end
 add-end c = search rules
 
-slice-aggregate-copy-times : tie.Need-slice-aggregate-copy-times
+slice-aggregate-copy-times : tie.Need-slice_bounds-copy_times-end
 slice-aggregate-copy-times c = search rules
 
-mul-copy-times : tie.Need-overflow-mul-copy-times
+mul-copy-times : tie.Need-offset_bounds-out-at
 mul-copy-times c = search rules
 
-sub-copy-times : tie.Need-overflow-sub-copy-times
+sub-copy-times : tie.Need-slice_bounds-copy_times-count
 sub-copy-times c = search rules
 
-part-copy-times-start : tie.Need-slice-bounds-copy-times-start
+part-copy-times-start : tie.Need-slice_bounds-copy_times-start
 part-copy-times-start c = search rules
 
-part-copy-times-end : tie.Need-slice-bounds-copy-times-end
+part-copy-times-end : tie.Need-slice_bounds-copy_times-end-2
 part-copy-times-end c = search rules
 
-copy-times-requires : tie.Need-copy-times-requires
+copy-times-requires : tie.Need-copy_times-requires
 copy-times-requires c κs = search rules
 
-same_length : tie.Need-same-length
+same_length : tie.Need-shape_of-out
 same_length c = search rules
 
 returns : tie.Need-returns
-returns c = (row_put_is _ _ _ _ _ refl c.before.before.copy-times.ensures, search rules)
+returns c = (row_put_is _ _ _ _ _ refl c.copy_times.ensures, search rules)
 
-pub put-times-spec : {M : Type 1} → statement M
-put-times-spec =
+pub put_times_spec : {M : Type 1} → statement M
+put_times_spec =
     tie.close
     (tie.spec
     add-end
