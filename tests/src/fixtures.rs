@@ -1,10 +1,7 @@
-//! What several test files start from: messages to a brick and what it says to their times, and coordinator 1 of a set of four bricks with
-//! its messages and the replies to it.
+//! What several test files start from: two messages to a brick, and coordinator 1 of a set of four bricks with the replies to it.
 
-use crate::brick::{Message, Reply, FULL, MODIFY, NEWER, NONE, ORDER, ORDER_READ, PROMISE, READ, WRITE};
-use crate::coordinator::{
-    crash, start_read, start_read_block, start_write, start_write_block, take_reply, Record, Running, Step,
-};
+use crate::brick::{Message, Reply, FULL, MODIFY, NEWER, NONE, ORDER_READ, PROMISE, READ, WRITE};
+use crate::coordinator::{take_reply, Record, Step};
 use crate::rng::Rng;
 use crate::settings::Volume;
 
@@ -22,22 +19,6 @@ pub fn order_read(time: u64, max: u64) -> Message {
         max,
         ..Message::plain(ORDER_READ, time, 2)
     }
-}
-
-/// A promise, a time, and what a brick of that newest time says to that time: with no promise, and with one that is ahead by 8 or more. An
-/// equal time counts as newer, and a newer time comes before the promise.
-pub fn said_to_times(newest: u64, ahead: u64) -> [(u64, u64, u8); 9] {
-    [
-        (0, newest, NEWER),
-        (0, newest + 1, NONE),
-        (0, newest - 1, NEWER),
-        (ahead, ahead - 1, PROMISE),
-        (ahead, newest + 1, PROMISE),
-        (ahead, ahead, NONE),
-        (ahead, ahead + 1, NONE),
-        (ahead, newest, NEWER),
-        (ahead, 16, NEWER),
-    ]
 }
 
 /// Four bricks, two of the data, one-byte blocks, three stripes.
@@ -90,59 +71,6 @@ pub fn may_say(kind: u8, comparison: u8) -> bool {
 /// A reply that coordinator 1 counts.
 pub fn take(record: &mut Record, reply: Reply) -> Step {
     take_reply(volume(), 1, record, &reply).unwrap()
-}
-
-/// Takes replies, the last of which decides; those before do nothing visible.
-pub fn take_all(record: &mut Record, replies: impl IntoIterator<Item = Reply>) -> Step {
-    let mut last = Step::default();
-    for reply in replies {
-        assert_eq!(last, Step::default());
-        last = take(record, reply);
-    }
-    last
-}
-
-/// A yes of each of these bricks, with nothing found.
-pub fn yes_from(kind: u8, round: u64, bricks: &[u64]) -> Vec<Reply> {
-    bricks.iter().map(|&brick| reply(kind, round, brick, true, 0, None)).collect()
-}
-
-/// A message of the operation at time 17.
-pub fn message(kind: u8, round: u64) -> Message {
-    Message { stripe: STRIPE, ..Message::plain(kind, 17, round) }
-}
-
-/// The messages of its Order-and-read round.
-pub fn order_reads(max: u64, round: u64) -> Vec<Message> {
-    vec![Message { max, ..message(ORDER_READ, round) }; 4]
-}
-
-/// Its Drops or early Trims of a time, with the number of a recovery round.
-pub fn clearing(kind: u8, time: u64, round: u64) -> Vec<Message> {
-    vec![Message { time, ..message(kind, round) }; 4]
-}
-
-/// The record with its running operation changed.
-pub fn with(mut record: Record, change: impl FnOnce(&mut Running)) -> Record {
-    change(record.running.as_mut().expect("an operation runs"));
-    record
-}
-
-/// Whether every routine refuses the record by 6, and leaves it as it is; else none does.
-pub fn breaks_a_rule(record: &Record) -> bool {
-    let mut changed = record.clone();
-    let results = [
-        start_read_block(volume(), 1, &mut changed, STRIPE, 0, 0),
-        start_write_block(volume(), 1, &mut changed, STRIPE, 0, 0, &[0]),
-        start_read(volume(), 1, &mut changed, STRIPE, 0, 0),
-        start_write(volume(), 1, &mut changed, STRIPE, 0, &[0, 0]),
-        take_reply(volume(), 1, &mut changed, &reply(ORDER, 1, 0, true, 0, None)),
-        crash(volume(), 1, &mut changed.clone()),
-    ];
-    let count = results.iter().filter(|&result| *result == Err(6)).count();
-    assert!(count == 0 || count == results.len());
-    assert!(count == 0 || changed == *record);
-    count > 0
 }
 
 /// The bricks that gave a block of the highest time in a recovery's round, in rising order.

@@ -6,7 +6,6 @@
 pub mod bench;
 pub mod brick;
 pub mod code;
-pub mod compared;
 pub mod coordinator;
 pub mod edges;
 pub mod field;

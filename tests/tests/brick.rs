@@ -1,7 +1,7 @@
 //! One message at one brick, on the image of its stripe and on the row of images.
 
 use jilbagum_tests::brick::*;
-use jilbagum_tests::fixtures::{order_read, read, said_to_times};
+use jilbagum_tests::fixtures::{order_read, read};
 use jilbagum_tests::image::{fresh, fresh_row, length, parse, write, Entry, State, BLOCK};
 use jilbagum_tests::rng::Rng;
 use jilbagum_tests::settings::{Refusal, Settings, NO_UPPER_END};
@@ -84,10 +84,24 @@ fn read_says_yes_unless_a_promise_is_ahead() {
     }
 }
 
+/// A promise, a time, and what a brick whose newest time is 32 says to that time. An equal
+/// time counts as newer, and a newer time comes before the promise.
+const AFTER_32: [(u64, u64, u8); 9] = [
+    (0, 32, NEWER),
+    (0, 33, NONE),
+    (0, 31, NEWER),
+    (40, 39, PROMISE),
+    (40, 33, PROMISE),
+    (40, 40, NONE),
+    (40, 41, NONE),
+    (40, 32, NEWER),
+    (40, 16, NEWER),
+];
+
 #[test]
 fn order_promises_a_time_above_newest_and_not_below_the_promise() {
     let log = [(0, 5), (32, 6)];
-    for (promise, time, said) in said_to_times(32, 40) {
+    for (promise, time, said) in AFTER_32 {
         let mut image = image(promise, &log);
         assert_eq!(
             answer(&mut image, &Message::plain(ORDER, time, 1)),
@@ -102,7 +116,7 @@ fn order_promises_a_time_above_newest_and_not_below_the_promise() {
 #[test]
 fn orders_do_not_look_for_a_free_entry() {
     let log = [(0, 5), (16, 4), (32, 6)];
-    for (promise, time, said) in said_to_times(32, 40) {
+    for (promise, time, said) in AFTER_32 {
         for message in [
             Message::plain(ORDER, time, 1),
             order_read(time, NO_UPPER_END),
@@ -157,7 +171,7 @@ fn order_and_read_gives_nothing_on_a_no() {
 
 #[test]
 fn write_appends_and_leaves_the_promise() {
-    for (promise, time, said) in said_to_times(32, 40) {
+    for (promise, time, said) in AFTER_32 {
         let mut image = image(promise, &[(0, 5), (32, 6)]);
         assert_eq!(answer(&mut image, &store(time, 9)), (said, 0, None));
         let log = if said == NONE {
@@ -188,7 +202,7 @@ fn a_full_log_says_no_until_a_trim() {
 #[test]
 fn write_names_the_first_comparison() {
     let log = [(0, 5), (16, 4), (32, 6)];
-    for (promise, time, said) in said_to_times(32, 40) {
+    for (promise, time, said) in AFTER_32 {
         let mut image = image(promise, &log);
         let before = image.clone();
         let expected = if said == NONE { FULL } else { said };

@@ -1,7 +1,7 @@
 //! Messages of operations on one block, and marks, at one brick.
 
 use jilbagum_tests::brick::*;
-use jilbagum_tests::fixtures::{order_read, read, said_to_times};
+use jilbagum_tests::fixtures::{order_read, read};
 use jilbagum_tests::code::{encode, weight};
 use jilbagum_tests::image::{fresh, marks, parse, write, Entry, State};
 use jilbagum_tests::rng::Rng;
@@ -114,9 +114,22 @@ fn the_lookup_under_max_gives_the_highest_entry_mark_or_block() {
     }
 }
 
+/// A promise, a time, and what a brick whose newest time is 64 says to that time.
+const AFTER_64: [(u64, u64, u8); 9] = [
+    (0, 64, NEWER),
+    (0, 65, NONE),
+    (0, 63, NEWER),
+    (80, 79, PROMISE),
+    (80, 65, PROMISE),
+    (80, 80, NONE),
+    (80, 81, NONE),
+    (80, 64, NEWER),
+    (80, 16, NEWER),
+];
+
 #[test]
 fn order_block_gives_newest_and_brick_j_its_block() {
-    for (promise, time, said) in said_to_times(64, 80) {
+    for (promise, time, said) in AFTER_64 {
         for (brick, byte) in [(0, None), (1, Some(6)), (2, None), (3, None)] {
             let mut image = image(brick, promise, &MARKED);
             let given = answer(brick, &mut image, &order_block(time, 1));
@@ -185,7 +198,7 @@ fn modify_over_marks() {
 
 #[test]
 fn modify_says_yes_over_the_old_time_alone() {
-    for (promise, time, said) in said_to_times(64, 80) {
+    for (promise, time, said) in AFTER_64 {
         for old_time in [0, 16, 32, 48, 64, 65, 80] {
             let mut image = image(1, promise, &MARKED);
             let before = image.clone();
@@ -229,7 +242,7 @@ fn a_full_log_says_no_to_modify_until_a_trim() {
 #[test]
 fn modify_names_the_first_comparison() {
     let log = [&[(0, Some(3)), (16, Some(4))], &MARKED[1..]].concat();
-    for (promise, time, said) in said_to_times(64, 80) {
+    for (promise, time, said) in AFTER_64 {
         for (old_time, said) in [
             (64, if said == NONE { FULL } else { said }),
             (0, NEWER),

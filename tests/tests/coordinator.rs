@@ -3,9 +3,7 @@
 use jilbagum_tests::brick::*;
 use jilbagum_tests::code::encode;
 use jilbagum_tests::coordinator::*;
-use jilbagum_tests::fixtures::{
-    breaks_a_rule, clearing, fresh, may_say, message, order_reads, reply, take, take_all, told, volume, with, yes_from, STRIPE,
-};
+use jilbagum_tests::fixtures::{fresh, may_say, reply, take, told, volume, STRIPE};
 use jilbagum_tests::recovery::{Recovery, OTHER_CHOICES};
 use jilbagum_tests::rng::Rng;
 use jilbagum_tests::settings::{Refusal, Volume, LAST_COUNT, NO_UPPER_END};
@@ -33,6 +31,26 @@ fn refused(record: &Record, reply: &Reply) -> Refusal {
     refusal
 }
 
+/// Takes replies, the last of which decides; those before do nothing visible.
+fn take_all(record: &mut Record, replies: Vec<Reply>) -> Step {
+    let count = replies.len();
+    let steps: Vec<Step> = replies
+        .into_iter()
+        .map(|reply| take(record, reply))
+        .collect();
+    assert!(steps[..count - 1]
+        .iter()
+        .all(|step| *step == Step::default()));
+    steps.into_iter().next_back().unwrap()
+}
+
+fn yes_from(kind: u8, round: u64, bricks: &[u64]) -> Vec<Reply> {
+    bricks
+        .iter()
+        .map(|&brick| reply(kind, round, brick, true, 0, None))
+        .collect()
+}
+
 /// How it ended, with its letter.
 fn outcome(step: &Step) -> (char, Outcome) {
     let ended = step.ended.clone().expect("the operation ended");
@@ -52,6 +70,32 @@ fn aborts(record: &mut Record, letter: char, replies: Vec<Reply>) {
     let step = take_all(record, replies);
     assert_eq!(outcome(&step), (letter, Outcome::Abort));
     assert!(step.sent.is_empty());
+}
+
+/// A message of the operation.
+fn message(kind: u8, round: u64) -> Message {
+    Message {
+        stripe: STRIPE,
+        ..Message::plain(kind, 17, round)
+    }
+}
+
+/// The messages of an Order-and-read round.
+fn order_reads(max: u64, round: u64) -> Vec<Message> {
+    let message = Message {
+        max,
+        ..message(ORDER_READ, round)
+    };
+    vec![message; 4]
+}
+
+/// Drops or early Trims of a time, with the number of a recovery round.
+fn clearing(kind: u8, time: u64, round: u64) -> Vec<Message> {
+    let message = Message {
+        time,
+        ..message(kind, round)
+    };
+    vec![message; 4]
 }
 
 /// Drops of a time that a recovery round found, then the next round.
@@ -1013,6 +1057,27 @@ fn blocks_of_order_and_read_replies() {
             "{reply:?}"
         );
     }
+}
+
+/// The record is refused by every routine, and unchanged.
+fn breaks_a_rule(record: &Record) -> bool {
+    let mut changed = record.clone();
+    let results = [
+        start_read(volume(), 1, &mut changed, STRIPE, 0, 0),
+        start_write(volume(), 1, &mut changed, STRIPE, 0, &[0, 0]),
+        take_reply(volume(), 1, &mut changed, &reply(ORDER, 1, 0, true, 0, None)),
+        crash(volume(), 1, &mut changed.clone()),
+    ];
+    let count = results.iter().filter(|&result| *result == Err(6)).count();
+    assert!(count == 0 || count == 4);
+    assert!(count == 0 || changed == *record);
+    count == 4
+}
+
+/// The record with its running operation changed.
+fn with(mut record: Record, change: impl FnOnce(&mut Running)) -> Record {
+    change(record.running.as_mut().unwrap());
+    record
 }
 
 #[test]

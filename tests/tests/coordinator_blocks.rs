@@ -2,9 +2,7 @@
 
 use jilbagum_tests::brick::*;
 use jilbagum_tests::coordinator::*;
-use jilbagum_tests::fixtures::{
-    breaks_a_rule, clearing, fresh, may_say, message, order_reads, reply, take_all, told, volume, with, yes_from, STRIPE,
-};
+use jilbagum_tests::fixtures::{fresh, may_say, reply, take, told, volume, STRIPE};
 use jilbagum_tests::recovery::{Recovery, OTHER_CHOICES};
 use jilbagum_tests::rng::Rng;
 use jilbagum_tests::settings::{Refusal, Volume, LAST_COUNT, NO_UPPER_END};
@@ -32,10 +30,50 @@ fn reading() -> Record {
     record
 }
 
+/// Takes replies, the last of which decides; those before do nothing visible.
+fn take_all(record: &mut Record, replies: impl IntoIterator<Item = Reply>) -> Step {
+    let mut last = Step::default();
+    for reply in replies {
+        assert_eq!(last, Step::default());
+        last = take(record, reply);
+    }
+    last
+}
+
+fn yes_from(kind: u8, round: u64, bricks: [u64; 3]) -> [Reply; 3] {
+    bricks.map(|brick| reply(kind, round, brick, true, 0, None))
+}
+
+/// A message of the operation.
+fn message(kind: u8, round: u64) -> Message {
+    Message {
+        stripe: STRIPE,
+        ..Message::plain(kind, 17, round)
+    }
+}
+
 /// The messages of a round: nothing has ended.
 fn sent(step: Step) -> Vec<Message> {
     assert_eq!(step.ended, None);
     step.sent
+}
+
+/// The messages of an Order-and-read round.
+fn order_reads(max: u64, round: u64) -> Vec<Message> {
+    let message = Message {
+        max,
+        ..message(ORDER_READ, round)
+    };
+    vec![message; 4]
+}
+
+/// Drops or early Trims of a time, with the number of a recovery round.
+fn clearing(kind: u8, time: u64, round: u64) -> Vec<Message> {
+    let message = Message {
+        time,
+        ..message(kind, round)
+    };
+    vec![message; 4]
 }
 
 /// The blocks of a Write round that follows an early Trim of time 40, with its round.
@@ -131,7 +169,7 @@ fn a_block_write_orders_then_modifies_then_trims() {
         ..message(MODIFY, 2)
     };
     assert_eq!(sent(step), vec![modify; 4]);
-    let step = take_all(&mut record, yes_from(MODIFY, 2, &[2, 3, 0]));
+    let step = take_all(&mut record, yes_from(MODIFY, 2, [2, 3, 0]));
     assert_eq!(step.sent, vec![message(TRIM, 2); 4]);
     assert_eq!(outcome(&step, Kind::WriteBlock), ('S', Outcome::Ok));
     assert_eq!(record, idle());
@@ -158,7 +196,7 @@ fn a_no_in_either_round_aborts() {
         }
         // After Modify went out there is no second way.
         for (comparison, letter) in [(NEWER, 'W'), (PROMISE, 'W'), (FULL, 'G')] {
-            let mut replies = yes_from(MODIFY, 2, &[1, 2, 3]);
+            let mut replies = yes_from(MODIFY, 2, [1, 2, 3]);
             replies[place] = told(&replies[place], comparison);
             aborts(modifying(), Kind::WriteBlock, letter, replies);
         }
@@ -242,32 +280,27 @@ fn a_recovered_block_write_stores_its_block_in_the_stripe_found() {
         (&[5, 7][..], &[][..])
     );
     assert_eq!(stores_after_trim(&sent(step), 2), [5, 7, 1, 3]);
-    let step = take_all(&mut record, yes_from(WRITE, 3, &[0, 2, 3]));
+    let step = take_all(&mut record, yes_from(WRITE, 3, [0, 2, 3]));
     assert_eq!(outcome(&step, Kind::WriteBlock), ('S', Outcome::Ok));
     assert_eq!(step.sent, vec![message(TRIM, 3); 4]);
     assert_eq!(record, idle());
 }
 
-/// The highest time, 48, is on one brick: it is dropped, and the next round looks below it.
-fn look_further_down(record: &mut Record) {
+#[test]
+fn a_recovered_block_write_looks_further_down() {
+    let mut record = recovering();
     let few = [
         reply(ORDER_READ, 2, 0, true, 16, Some(5)),
         reply(ORDER_READ, 2, 1, true, 48, Some(8)),
         reply(ORDER_READ, 2, 2, true, 16, Some(29)),
     ];
     let expected = [clearing(DROP, 48, 2), order_reads(48, 3)].concat();
-    assert_eq!(sent(take_all(record, few)), expected);
-}
-
-#[test]
-fn a_recovered_block_write_looks_further_down() {
-    let mut record = recovering();
-    look_further_down(&mut record);
+    assert_eq!(sent(take_all(&mut record, few)), expected);
     // It keeps its block meanwhile.
     assert_eq!(record.running.as_ref().unwrap().data, [7]);
     let messages = sent(take_all(&mut record, recovered(3)));
     assert_eq!(stores_after_trim(&messages, 3), [5, 7, 1, 3]);
-    let step = take_all(&mut record, yes_from(WRITE, 4, &[0, 2, 3]));
+    let step = take_all(&mut record, yes_from(WRITE, 4, [0, 2, 3]));
     assert_eq!(outcome(&step, Kind::WriteBlock), ('S', Outcome::Ok));
 }
 
@@ -317,10 +350,16 @@ fn early_trims_of_a_block_write() {
 #[test]
 fn a_recovered_block_read_looks_further_down() {
     let mut record = recovering_read();
-    look_further_down(&mut record);
+    let few = [
+        reply(ORDER_READ, 2, 0, true, 16, Some(5)),
+        reply(ORDER_READ, 2, 1, true, 48, Some(8)),
+        reply(ORDER_READ, 2, 2, true, 16, Some(29)),
+    ];
+    let expected = [clearing(DROP, 48, 2), order_reads(48, 3)].concat();
+    assert_eq!(sent(take_all(&mut record, few)), expected);
     let messages = sent(take_all(&mut record, recovered(3)));
     assert_eq!(stores_after_trim(&messages, 3), [5, 9, 29, 17]);
-    let step = take_all(&mut record, yes_from(WRITE, 4, &[0, 2, 3]));
+    let step = take_all(&mut record, yes_from(WRITE, 4, [0, 2, 3]));
     assert_eq!(outcome(&step, Kind::ReadBlock), ('L', gave(9, &[1, 2])));
 }
 
@@ -414,7 +453,7 @@ fn a_block_read_recovers_otherwise_and_gives_its_block() {
         assert_eq!(sent(step), order_reads(NO_UPPER_END, 2));
         let messages = sent(take_all(&mut record, recovered(2)));
         assert_eq!(stores_after_trim(&messages, 2), [5, 9, 29, 17]);
-        let step = take_all(&mut record, yes_from(WRITE, 3, &[0, 2, 3]));
+        let step = take_all(&mut record, yes_from(WRITE, 3, [0, 2, 3]));
         // It names the m bricks decoded from.
         assert_eq!(outcome(&step, Kind::ReadBlock), ('H', gave(9, &[1, 2])));
         assert_eq!(step.sent, vec![message(TRIM, 3); 4]);
@@ -675,8 +714,34 @@ fn starts_refused_lowest_first() {
     }
 }
 
+/// The record is refused by every routine, and unchanged.
+fn breaks_a_rule(record: &Record) -> bool {
+    let mut changed = record.clone();
+    let results = [
+        start_read_block(volume(), 1, &mut changed, STRIPE, 0, 0),
+        start_write_block(volume(), 1, &mut changed, STRIPE, 0, 0, &[0]),
+        start_read(volume(), 1, &mut changed, STRIPE, 0, 0),
+        take_reply(
+            volume(),
+            1,
+            &mut changed,
+            &reply(ORDER, 1, 0, true, 0, None),
+        ),
+        crash(volume(), 1, &mut changed.clone()),
+    ];
+    let count = results.iter().filter(|&result| *result == Err(6)).count();
+    assert!(count == 0 || count == 5 && changed == *record);
+    count == 5
+}
+
+/// The record with its running operation changed.
+fn with(mut record: Record, change: impl FnOnce(&mut Running)) -> Record {
+    change(record.running.as_mut().unwrap());
+    record
+}
+
 #[test]
-fn broken_block_records() {
+fn broken_records() {
     let storing = || {
         let mut record = recovering();
         take_all(&mut record, recovered(2));
@@ -765,7 +830,7 @@ fn broken_block_records() {
         counted(reading(), reply(READ, 1, 0, true, 40, Some(9))),
         with(writing(), |r| r.replies = ordered().to_vec()),
         with(modifying(), |r| {
-            r.replies = yes_from(MODIFY, 2, &[0, 1, 2])
+            r.replies = yes_from(MODIFY, 2, [0, 1, 2]).to_vec()
         }),
     ];
     for record in &broken {
