@@ -5,7 +5,7 @@
 ghost use Rattle.std.specs.Prelude.{◌≡◌, cond, ◌-◌, ◌≤◌, eqb, length};
 ghost use Rattle.bench_io.specs.Counts.{Moved, IsPrefixLen, clamp_len};
 ghost use Rattle.bench_io.specs.Workers.{goes_on, at_end, write_status, read_status, left_with};
-ghost use Rattle.bench_io.specs.Workers.{Interrupts, HeldPlayed, ChunkPlayed, PlayedLast, TurnMade, Ran, RunLeft};
+ghost use Rattle.bench_io.specs.Workers.{Interrupts, TellsInterrupt, HeldPlayed, ChunkPlayed, PlayedLast, TurnMade, Ran, RunLeft};
 ghost use Rattle.bench_limits.specs.Limits.{kept_length, images_length, numbers_length, bytes_length, text_length};
 ghost use Rattle.bench_rules.specs.Turning.{lent};
 
@@ -21,6 +21,9 @@ const ENDED: u32 = 1;
 const CANNOT_READ: u32 = 2;
 
 const CANNOT_WRITE: u32 = 3;
+
+// What `read` answers at the end of the input.
+const END_OF_INPUT: isize = 0;
 
 // The number that the system gives an error where a signal interrupted the call.
 const EINTR: i32 = 4;
@@ -219,7 +222,9 @@ fn is_interrupt(error: i32) -> bool
 }
 
 // Whether a signal interrupted the call that failed so. An error that is not the system's has no number, but a kind.
-fn was_interrupted(error: &Error) -> bool {
+fn was_interrupted(error: &Error) -> bool
+    ensures { TellsInterrupt error.now result }
+{
     match error.raw_os_error() {
         Some(number) => is_interrupt(number),
         None => error.kind() == ErrorKind::Interrupted,
@@ -261,7 +266,7 @@ fn after_reading(got: isize, interrupted: bool) -> u32
     if 0 < got {
         return GOES_ON;
     }
-    if got == 0 {
+    if got == END_OF_INPUT {
         return ENDED;
     }
     if interrupted {
