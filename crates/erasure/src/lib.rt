@@ -271,13 +271,7 @@ pub fn recode_into(
 }
 
 // Encodes, or gives the number of the refusal and leaves the buffer.
-pub fn stripe_encode(
-    n: usize,
-    m: usize,
-    size: usize,
-    data: &[u8],
-    coded: &mut [u8],
-) -> u32
+pub fn stripe_encode(n: usize, m: usize, size: usize, data: &[u8], coded: &mut [u8]) -> u32
     ensures value { result ≡ encode_refusal n m size (length «data».now) (length coded.old) }
     ensures coded_after { coded.new ≡ encoded_buffer n m size «data».now coded.old }
 {
