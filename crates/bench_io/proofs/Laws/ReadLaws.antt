@@ -12,7 +12,7 @@ use borrow.Author.Tests.{ltb-false}
 use mir.Syntax.{w32, w64}
 use mir.Val.{SFits, to_z, of_z}
 use mir.Facts.{to_z-of_z}
-use Rattle.io.specs.Counts.{clamp_len}
+use Rattle.bench_io.specs.Counts.{clamp_len}
 use Rattle.bench_rules.specs.Turning.{Lent}
 use Rattle.bench_io.specs.Workers.{goes_on, at_end, cannot_read, read_status, arrived, Interrupts, ChunkPlayed, PlayedLast, TurnMade, came, ended, failed}
 use Rattle.bench_io.specs.declared.Pass.{Pass}
@@ -71,7 +71,7 @@ goes (pos (suc k)) interrupted a b = refl
 goes (negsuc k) true a b = refl
 goes (negsuc k) false a b = absurd (b refl)
 
--- what came is what `io::count` counts
+-- what came is what `count` counts
 take_min : (k : ℕ) (l : List ℕ) → take (min k (length l)) l ≡ take k l
 take_min zero l = rw (zero-min (length l))
 take_min (suc k) [] = rw (min-zero (suc k))
