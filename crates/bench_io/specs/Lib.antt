@@ -2,3 +2,5 @@
 pub mod StopTheorem
 -- What the inner workers state.
 pub mod Workers
+-- What a call of `read` may answer.
+pub mod Counts

@@ -5,7 +5,7 @@ use Rattle.bench_io.specs.Workers.{goes_on, cannot_write, failed_status, most_tu
 use Rattle.bench_io.specs.declared.Pass.{Pass}
 
 -- what `read` answered, turn by turn
-unfoldable pub answers : {p₀ p : Pass} {l₀ l : Lent} {line₀ out₀ text line out : List ℕ} {chunks : List (List ℕ)}
+unfoldable pub answers : {p₀ : Pass} {l₀ : Lent} {line₀ out₀ : List ℕ} {p : Pass} {l : Lent} {text line out : List ℕ} {chunks : List (List ℕ)}
     → Turns p₀ line₀ l₀ out₀ chunks text p line l out → List ℤ
 answers none = []
 answers (next got interrupted chunk ts on moved t) = answers ts ++ got ∷ []

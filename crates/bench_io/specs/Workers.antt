@@ -1,8 +1,11 @@
 -- What the program's own functions give. That `read` fills the chunk with the input's next bytes, and that `write` writes out the text that it is
--- handed, no contract can say. Nor can a function's contract name what a call inside it answered: `turn` takes `read`'s answer as a parameter, and
--- of all turns, and of the program, it is said that there are answers with which they are such a chain.
-use Rattle.std.specs.Prelude.{◌≡◌, Bool, true, cond, List, [], ◌∷◌, ◌++◌, ℕ, zero, suc, ◌≤◌, eqb, ℤ, pos, negsuc, length, take}
-use Rattle.libc.specs.Io.{Moved}
+-- handed, no contract can say of the process's own streams. Nor can a function's contract name what a call inside it answered: `turn` takes
+-- `read`'s answer as a parameter, and of all turns, and of the program, it is said that there are answers with which they are such a chain.
+use Rattle.std.specs.Prelude.{◌≡◌, ◌↔◌, Bool, true, cond, IsTrue, MatchOption, List, [], ◌∷◌, ◌++◌, ℕ, zero, suc, ◌≤◌, eqb, ℤ, pos, negsuc, length, take}
+use Rattle.std.specs.IoError.{error_kind, raw_os_error}
+use Rattle.std.specs.declared.io.Error.{Error}
+use Rattle.std.specs.declared.io.ErrorKind.TheVariants.{Interrupted}
+use Rattle.bench_io.specs.Counts.{Moved}
 use Rattle.bench_parse.specs.Lines.{held_length}
 use Rattle.bench_lines.specs.Cutting.{Cuts, last_line}
 use Rattle.bench_player.specs.Calls.{Calls}
@@ -31,7 +34,7 @@ cannot_write = 3
 unfoldable pub write_status : Bool → ℕ
 write_status written = cond written goes_on cannot_write
 
--- errno's number where a signal interrupted a call (EINTR)
+-- the system's number for an error where a signal interrupted a call (EINTR)
 abbrev pub interrupted_error : ℤ
 interrupted_error = pos 4
 
@@ -39,6 +42,10 @@ interrupted_error = pos 4
 pub record Interrupts (error : ℤ) (r : Bool) : Type 0 where
   pub only : r ≡ true → error ≡ interrupted_error
   pub always : error ≡ interrupted_error → r ≡ true
+
+-- whether an error of std's says so: by its number, or where it is not the system's and has none, by its kind
+abbrev pub TellsInterrupt : Error → Bool → Type 0
+TellsInterrupt error r = MatchOption (raw_os_error error) (IsTrue r ↔ (error_kind error ≡ Interrupted)) (λ number. Interrupts number r)
 
 -- How it stands after a call of `read`, by its answer: some bytes came; 0, the end of the input; -1, a call that a signal interrupted, which is
 -- made again, or one that failed.

@@ -8,7 +8,7 @@ use lib.Dec.{eqb}
 use lib.IntN.{ℤ}
 use lib.ListN.{length, take, length-append}
 use borrow.Author.Tests.{eqb-true, ne_eqb}
-use Rattle.libc.specs.Io.{Moved}
+use Rattle.bench_io.specs.Counts.{Moved}
 use Rattle.bench_parse.specs.Lines.{held_length}
 use Rattle.bench_lines.specs.Cutting as cutting
 use Rattle.bench_lines.specs.Cutting.{Cuts, last_line, HandedOn, chunk}
@@ -21,7 +21,7 @@ use Rattle.bench_rules.specs.Turning.{Lent}
 use Rattle.bench_state.specs.declared.Bench.{Bench}
 use Rattle.register.specs.Runs.{Event}
 use Rattle.bench_io.specs.Workers as workers
-use Rattle.bench_io.specs.Workers.{goes_on, at_end, arrived, most_turns, left_with, TurnMade, text_of, Turns, Ran, RunLeft}
+use Rattle.bench_io.specs.Workers.{goes_on, at_end, failed_status, arrived, most_turns, left_with, TurnMade, text_of, Turns, Ran, RunLeft}
 use Rattle.bench_io.specs.declared.Pass.{Pass}
 use Rattle.bench_io.proofs.Laws.PassLaws.{calls_both, written_not_ended, last_not_on}
 use Rattle.bench_io.proofs.Laws.ReadLaws.{none_arrived}
@@ -203,3 +203,12 @@ run_left line l out status l' out' left r e h i k n y o =
       ran = r;
       left_is = e;
     }
+
+-- the program leaves with 0 or 1
+pub left_low : (left : ℕ) → RunLeft left → left ≤ 1
+unfolding left_with
+left_low left r = go (eqb r.status at_end) r.left_is
+  where
+    go : (a : Bool) → left ≡ cond a 0 failed_status → left ≤ 1
+    go true e = omega (arith, e)
+    go false e = omega (arith, e)

@@ -6,7 +6,7 @@ use Prim.Native.Nat.{ℕ, zero, suc}
 use native.Mathlib.Omega.{arith}
 use lib.IntN.{ℤ, pos, negsuc}
 use lib.ListN.{length, take, length-append}
-use Rattle.libc.specs.Io.{Moved}
+use Rattle.bench_io.specs.Counts.{Moved}
 use Rattle.bench_rules.specs.Turning.{Lent}
 use Rattle.bench_io.specs.Workers.{goes_on, at_end, cannot_read, cannot_write, write_status, read_status, arrived, left_with}
 use Rattle.bench_io.specs.Workers.{TurnMade, came, ended, failed, Turns, none, next}
@@ -60,20 +60,20 @@ went_on (ended e q) g = absurd (last_not_on q.written _ q.status-is g)
 went_on (failed e f b) g = absurd (omega (arith, f, g))
 
 -- a chain after which the program goes on has only such answers
-turns_on : {p₀ p : Pass} {l₀ l : Lent} {line₀ out₀ text line out : List ℕ} {chunks : List (List ℕ)}
+turns_on : {p₀ : Pass} {l₀ : Lent} {line₀ out₀ : List ℕ} {p : Pass} {l : Lent} {text line out : List ℕ} {chunks : List (List ℕ)}
     (ts : Turns p₀ line₀ l₀ out₀ chunks text p line l out) → p.status ≡ goes_on → GoOn (answers ts)
 unfolding answers
 turns_on none e = start
 turns_on (next got interrupted chunk ts o moved t) e = then got interrupted (turns_on ts o) (went_on t e)
 
-turns_end : {p₀ p : Pass} {l₀ l : Lent} {line₀ out₀ text line out : List ℕ} {chunks : List (List ℕ)} → p₀.status ≡ goes_on
+turns_end : {p₀ : Pass} {l₀ : Lent} {line₀ out₀ : List ℕ} {p : Pass} {l : Lent} {text line out : List ℕ} {chunks : List (List ℕ)} → p₀.status ≡ goes_on
     → (ts : Turns p₀ line₀ l₀ out₀ chunks text p line l out) → Ends (answers ts) p.status
 unfolding answers
 turns_end e none = subst (Ends []) (sym e) on
 turns_end e (next got interrupted chunk ts o moved t) = by_turn (answers ts) (turns_on ts o) moved t
 
 -- an answer for each turn
-answers_many : {p₀ p : Pass} {l₀ l : Lent} {line₀ out₀ text line out : List ℕ} {chunks : List (List ℕ)}
+answers_many : {p₀ : Pass} {l₀ : Lent} {line₀ out₀ : List ℕ} {p : Pass} {l : Lent} {text line out : List ℕ} {chunks : List (List ℕ)}
     (ts : Turns p₀ line₀ l₀ out₀ chunks text p line l out) → length (answers ts) ≡ length chunks
 unfolding answers
 answers_many none = refl
