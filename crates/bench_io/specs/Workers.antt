@@ -1,6 +1,6 @@
 -- What the program's own functions give. That `read` fills the chunk with the input's next bytes, and that `write` writes out the text that it is
--- handed, no contract can say. Nor can a function's contract name what a call inside it answered: `turn` takes `read`'s answer as a parameter, and
--- of all turns, and of the program, it is said that there are answers with which they are such a chain.
+-- handed, no contract can say of the process's own streams. Nor can a function's contract name what a call inside it answered: `turn` takes
+-- `read`'s answer as a parameter, and of all turns, and of the program, it is said that there are answers with which they are such a chain.
 use Rattle.std.specs.Prelude.{◌≡◌, ◌↔◌, Bool, true, cond, IsTrue, MatchOption, List, [], ◌∷◌, ◌++◌, ℕ, zero, suc, ◌≤◌, eqb, ℤ, pos, negsuc, length, take}
 use Rattle.std.specs.IoError.{error_kind, raw_os_error}
 use Rattle.std.specs.declared.io.Error.{Error}
@@ -34,7 +34,7 @@ cannot_write = 3
 unfoldable pub write_status : Bool → ℕ
 write_status written = cond written goes_on cannot_write
 
--- errno's number where a signal interrupted a call (EINTR)
+-- the system's number for an error where a signal interrupted a call (EINTR)
 abbrev pub interrupted_error : ℤ
 interrupted_error = pos 4
 

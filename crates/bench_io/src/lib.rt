@@ -2,9 +2,10 @@
 // writes out what the line prints. All that it does with a line is `bench_player`'s, and with a chunk `bench_lines`'s.
 #![tactic(auto)]
 
-ghost use Rattle.std.specs.Prelude.{◌≡◌, cond, ◌-◌, ◌≤◌, eqb, length};
+ghost use Rattle.std.specs.Prelude.{◌≡◌, cond, ◌-◌, ◌<◌, ◌≤◌, eqb, length, take, pos};
+ghost use Rattle.std.specs.Io.KnownBytes.{Consumes, IsAtEnd};
 ghost use Rattle.bench_io.specs.Counts.{Moved, IsPrefixLen, clamp_len};
-ghost use Rattle.bench_io.specs.Workers.{goes_on, at_end, write_status, read_status, left_with};
+ghost use Rattle.bench_io.specs.Workers.{goes_on, at_end, write_status, read_status, arrived, left_with};
 ghost use Rattle.bench_io.specs.Workers.{Interrupts, TellsInterrupt, HeldPlayed, ChunkPlayed, PlayedLast, TurnMade, Ran, RunLeft};
 ghost use Rattle.bench_limits.specs.Limits.{kept_length, images_length, numbers_length, bytes_length, text_length};
 ghost use Rattle.bench_rules.specs.Turning.{lent};
@@ -231,9 +232,11 @@ fn was_interrupted(error: &Error) -> bool
     }
 }
 
-// One call of `read`.
+// One call of `read`. Where it is known which bytes the reader has left, those that came are the next of them, and it answers 0 at their end.
 fn read_once<R: Read>(input: &mut R, chunk: &mut [u8]) -> Answer
-    ensures { Moved (length chunk.new) result.got }
+    ensures moved { Moved (length chunk.new) result.got }
+    ensures bytes { Consumes (R.remaining input.old) (R.remaining input.new) (take (arrived result.got) chunk.new) }
+    ensures end { result.got ≡ pos 0 → 0 < length chunk.new → IsAtEnd (R.remaining input.new) }
 {
     match input.read(chunk) {
         Ok(n) => Answer {

@@ -2,7 +2,7 @@
 use mathlib.Core.Path.{◌≡◌, refl, sym, subst, ◌∙◌, ap}
 use mathlib.Core.Bool.{Bool, true, false, cond, true≢false}
 use mathlib.Core.List.{List, [], ◌∷◌}
-use Prim.Native.Nat.{ℕ, zero, suc, min}
+use Prim.Native.Nat.{ℕ, zero, suc, min, ◌<◌, ◌^◌}
 use native.Mathlib.Nat.{zero-min, min-zero, suc-min-suc}
 use native.Mathlib.Omega.{arith}
 use lib.IntN.{ℤ, pos, negsuc}
@@ -11,7 +11,9 @@ use lib.Signed.{lt_z}
 use borrow.Author.Tests.{ltb-false}
 use mir.Syntax.{w32, w64}
 use mir.Val.{SFits, to_z, of_z}
-use mir.Facts.{to_z-of_z}
+use mir.Facts.{to_z-of_z, to_z_pos}
+use Rattle.std.specs.Prelude.{Option, None, Some}
+use Rattle.std.specs.Io.KnownBytes.{Consumes, Keeps}
 use Rattle.bench_io.specs.Counts.{clamp_len}
 use Rattle.bench_rules.specs.Turning.{Lent}
 use Rattle.bench_io.specs.Workers.{goes_on, at_end, cannot_read, read_status, arrived, Interrupts, ChunkPlayed, PlayedLast, TurnMade, came, ended, failed}
@@ -100,3 +102,15 @@ module _ (got : ℤ) (interrupted : Bool) (chunk line : List ℕ) (p : Pass) (l 
 
   pub turn_failed : status ≡ cannot_read → r.status ≡ status → r.bench ≡ p.bench → TurnMade got interrupted chunk line p l out r line l out
   turn_failed a s b = failed (sym e ∙ a) (s ∙ a) b
+
+-- The bytes that came, where it is known which the reader has left: all that the call gave, or none where it failed.
+pub came_bytes : (old new : Option (List ℕ)) (chunk : List ℕ) (n : ℕ) → n < 2 ^ 63 → Consumes old new (take n chunk)
+    → Consumes old new (take (arrived (to_z w64 n)) chunk)
+unfolding arrived
+came_bytes old new chunk n h c = subst (λ (z : ℤ). Consumes old new (take (arrived z) chunk)) (sym (to_z_pos w64 h)) c
+
+pub came_none : (old new : Option (List ℕ)) (chunk : List ℕ) → Keeps old new → Consumes old new (take (arrived (negsuc 0)) chunk)
+unfolding arrived
+came_none None new chunk k = tt
+came_none (Some xs) None chunk k = k
+came_none (Some xs) (Some ys) chunk k = sym k

@@ -17,7 +17,7 @@ loop-turns-preserved g c =
     let fits : SFits w64 c.read_once-answer.result.got = search rules in
     running_more _ _ _ _ _ _ _ _ _ c.read_once-answer.result.got _ c.read_once-answer.result.interrupted _ _ c.turn-p.result c.turn-p.new.line
     (lent c.turn-p.new.images c.turn-p.new.kept c.turn-p.new.numbers c.turn-p.new.bytes) c.turn-p.new.out c.turns_left-turns.result
-    c.loop-turns.invariant c.loop-turns-test.true c.read_once-answer.ensures (to_z-of_z fits) refl c.turn-p.ensures c.turns_left-turns.ensures
+    c.loop-turns.invariant c.loop-turns-test.true c.read_once-answer.ensures.moved (to_z-of_z fits) refl c.turn-p.ensures c.turns_left-turns.ensures
 
 pub returns : goal.returns
 returns g c =
