@@ -1,6 +1,7 @@
 //! Every must-fail edit was refused for a fact that fails, and not for its form. `rt ci` says of each edit in one line what refused it, and
 //! .ci/run keeps these lines in `target/proofs.log`; where no edit was tried, as in `.ci/run fast`, there is nothing to read. A full `.ci/run`
-//! sets EDITS_TRIED: then each edit has its line. The lines of `rt must-fail` are the same.
+//! sets EDITS_TRIED: then each edit has its line. The lines of `rt must-fail` are the same. The error in a line is the first one that is no name
+//! which a proof file cites and the edit took away; where there is no other, the line says so, and the edit was refused for its form.
 
 use std::collections::BTreeSet;
 use std::fs;

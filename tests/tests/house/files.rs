@@ -69,7 +69,7 @@ fn is_blank(line: &str) -> bool {
 
 /// The pieces of a text between spaces, brackets and the like.
 pub fn pieces(text: &str) -> impl Iterator<Item = &str> {
-    text.split(|c: char| c.is_whitespace() || "(){}[];,\"⌜⌝".contains(c))
+    text.split(|c: char| c.is_whitespace() || "(){}[];,\"".contains(c))
         .filter(|piece| !piece.is_empty())
 }
 
