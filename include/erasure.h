@@ -1,6 +1,6 @@
 /* The erasure code: a stripe of m data blocks into n coded blocks, one a brick, and back from the blocks of any m or more bricks.
-   Link with liberasure.a (`rt staticlib erasure` writes it to target/staticlib), for x86-64 only: System V calls, with SSE2. It calls memset,
-   and nothing else outside.
+   Link with liberasure.a (c/libs writes it to target/staticlib), for x86-64 only: System V calls, with SSE2. It calls memset, and nothing else
+   outside.
 
    What the caller owes, and nobody checks:
    - each pointer is valid for its length: the bytes behind `const` may be read, the others read and written, during the call. They need no
@@ -10,9 +10,8 @@
    - bricks and blocks belong together: block k of `blocks` is what brick bricks[k] holds of one and the same stripe. m blocks of two
      stripes are accepted, and decode to bytes that may be of neither; of more than m blocks it is checked that some one stripe has them all
      (15).
-   Nothing is kept between calls, and nothing is allocated. 2,048 bytes of stack are enough; this is measured, and not proved: with release
-   1.7.1 on x86-64, at size 256 and every n and m, stripe_encode took 1,000 bytes and stripe_decode 1,896, from the return address down, glibc's
-   memset included. (Where a dynamic linker looks memset up only when it is first called, that one call takes the linker's stack besides.)
+   Nothing is kept between calls, and nothing is allocated. 2,048 bytes of stack are enough; this is measured, and not proved: on x86-64, at
+   size 256 and every n and m, stripe_encode took 920 bytes and stripe_decode 1,784, from the return address down, glibc's memset included. (Where a dynamic linker looks memset up only when it is first called, that one call takes the linker's stack besides.)
 
    What is returned: 0, done; or a refusal, the lowest that applies, and then no byte is changed:
    1  a setting is out of its range: n 1 to 16, m 1 to n, size (bytes in a block) 1 to 256;

@@ -1,5 +1,5 @@
 /* A volume: where a block of the one disk that a client sees lies among the stripes of a brick set.
-   Link with libvolume.a (`rt staticlib volume` writes it to target/staticlib), for x86-64 only: System V calls. It calls nothing outside.
+   Link with libvolume.a (c/libs writes it to target/staticlib), for x86-64 only: System V calls. It calls nothing outside.
 
    A volume has `stripes` stripes of m data blocks each on the same bricks, so stripes * m client blocks, numbered from 0. Client block
    `block` lies in stripe block % stripes, and is data block block / stripes there. No two client blocks share a place, and every data block
@@ -9,8 +9,8 @@
    - the pointer is valid for its length, in numbers, and aligned as a size_t is (8 bytes): the numbers behind it may be read and written
      during the call. With length 0 it may be NULL: the call is then refused, whatever else it is given, and nothing behind it is touched;
    - no other thread reads or writes them during the call.
-   Nothing is kept between calls, and nothing is allocated. Of the stack volume_place takes its return address alone, 8 bytes, measured with
-   release 1.7.1 on x86-64.
+   Nothing is kept between calls, and nothing is allocated. Of the stack volume_place takes 24 bytes, its return address among them, measured on
+   x86-64.
 
    What is returned: 0, done; or a refusal, the first of these that applies, and then no number is changed:
    1  a setting is out of its range: n (bricks) 1 to 16, m (data blocks of a stripe) 1 to n, size (bytes in a block) 1 to 256, capacity

@@ -1,4 +1,4 @@
-// Links the proved static libraries. `rt staticlib NAME` writes them to ../target/staticlib (see .ci/run).
+// Links the proved static libraries. c/libs writes them to ../target/staticlib.
 fn main() {
     let root = std::path::Path::new(env!("CARGO_MANIFEST_DIR")).join("../target/staticlib");
     println!("cargo:rustc-link-search=native={}", root.display());

@@ -33,41 +33,40 @@ type Names = &'static [(&'static str, &'static str)];
 
 /// at a coordinator: its record, and the set's settings
 const COORDINATOR: Names =
-    &[("r", "a"), ("n", "(s .n)"), ("m", "(s .m)"), ("size", "(s .size)"), ("stripes", "(s .stripes)"), ("c", "(k .state)")];
+    &[("result", "a"), ("n", "s.n"), ("m", "s.m"), ("size", "s.size"), ("stripes", "s.stripes"), ("c", "k.state")];
 /// a start names its stripe
-const START: Names = &[("«stripe_number»", "number")];
+const START: Names = &[("stripe_number", "number")];
 /// what a write is handed, and the stripe beside the record
-const CONTENT: Names =
-    &[("(now (bytes .entry))", "content"), ("(now (stripe .entry))", "(k .stripe)"), ("(now (stripe .exit))", "stripe")];
+const CONTENT: Names = &[("bytes.now", "content"), ("stripe.old", "k.stripe"), ("stripe.new", "stripe")];
 /// a reply, and every buffer
 const REPLY: Names = &[
     ("reply", "r"),
-    ("(now (block .entry))", "block"),
-    ("(now (blocks .entry))", "(k .blocks)"),
-    ("(now (blocks .exit))", "blocks′"),
-    ("(now (stripe .entry))", "(k .stripe)"),
-    ("(now (stripe .exit))", "stripe′"),
-    ("(now (coded .entry))", "coded"),
-    ("(now (coded .exit))", "coded′"),
+    ("block.now", "block"),
+    ("blocks.old", "k.blocks"),
+    ("blocks.new", "blocks'"),
+    ("stripe.old", "k.stripe"),
+    ("stripe.new", "stripe'"),
+    ("coded.old", "coded"),
+    ("coded.new", "coded'"),
 ];
 /// a message at a brick
 const MESSAGE: Names = &[
-    ("r", "g"),
+    ("result", "g"),
     ("brick", "b"),
-    ("(now (block .entry))", "lent"),
-    ("(now (old .entry))", "lentOld"),
-    ("(now (out .entry))", "out"),
-    ("(now (out .exit))", "out′"),
+    ("block.now", "lent"),
+    ("old.now", "lent_old"),
+    ("out.old", "out"),
+    ("out.new", "out'"),
 ];
-const ROW_OF_IMAGES: Names = &[("(now (images .entry))", "(r .world .images b)"), ("(now (images .exit))", "images′")];
-const IMAGE: Names = &[("(now (image .entry))", "(imageAt s (msg .stripe) (r .world .images b))"), ("(now (image .exit))", "image′")];
+const ROW_OF_IMAGES: Names = &[("images.old", "(r.world.images b)"), ("images.new", "images'")];
+const IMAGE: Names = &[("image.old", "(image_at s msg.stripe (r.world.images b))"), ("image.new", "image'")];
 /// a brick whose row is written afresh
-const FRESH: Names = &[("brick", "b"), ("(now (images .entry))", "(before b)")];
-const NOT_REFUSED: Names = &[("r", "passed")];
-const LEFT: Names = &[("now (images .exit)", "w .images b")];
+const FRESH: Names = &[("brick", "b"), ("images.old", "(before b)")];
+const NOT_REFUSED: Names = &[("result", "passed")];
+const LEFT: Names = &[("images.new", "w.images b")];
 const IDLE: Names = &[
-    ("r", "w .coordinators c .state"),
-    ("geometry", "(geometryOf s)"),
+    ("result", "(w.coordinators c).state"),
+    ("geometry", "(geometry_of s)"),
     ("clock", "(record { coordinator = c; last = last c })"),
 ];
 
@@ -82,8 +81,8 @@ const ROWS: &[Row] = &[
     row("coordinator", "start_read_block", 0, Body("ReadBlockEnsures"), &[COORDINATOR, START]),
     row("coordinator", "take_reply", 0, Body("TakeEnsures"), &[COORDINATOR, REPLY]),
     row("coordinator", "crash", 0, Body("CrashEnsures"), &[COORDINATOR]),
-    row("volume", "receive", 0, Premise("receive", "outcomeWith"), &[MESSAGE, ROW_OF_IMAGES]),
-    row("brick", "receive", 0, Premise("receive-image", "outcomeWith"), &[MESSAGE, IMAGE]),
+    row("volume", "receive", 0, Premise("receive", "outcome_with"), &[MESSAGE, ROW_OF_IMAGES]),
+    row("brick", "receive", 0, Premise("receive_image", "outcome_with"), &[MESSAGE, IMAGE]),
     row("volume", "write_fresh", 0, FieldTurned("not-refused"), &[FRESH, NOT_REFUSED]),
     row("volume", "write_fresh", 1, Field("images-are"), &[FRESH, LEFT]),
     row("coord_record", "idle_with", 0, Field("all-idle"), &[IDLE]),
@@ -138,15 +137,21 @@ fn parts(term: &[String]) -> Vec<Vec<String>> {
     found
 }
 
-/// The term that the contract of a routine ensures.
+/// The term that the contract of a routine ensures: a clause is `ensures { .. }`, or with its name, `ensures value { .. }`.
 fn contract(source: &str, routine: &str, ensures: usize) -> Vec<String> {
     let head = format!("\npub fn {routine}(");
     let from = source.find(&head).expect(routine) + 1;
     let body = source[from..].find("\n{").expect("a body");
     let text = &source[from..from + body];
-    let fact = text.split("ensures {").nth(ensures + 1).expect("ensures");
-    let (_, fact) = fact.split_once('⌜').expect("a fact");
-    bare(tokens(fact.split_once('⌝').expect("its end").0))
+    let clause = text.split("\n    ensures ").nth(ensures + 1).expect("ensures");
+    let (name, fact) = clause.split_once('{').expect("a fact");
+    assert!(name.chars().all(|c| c.is_alphanumeric() || "_ ".contains(c)), "{routine}: {name}");
+    let mut depth = 1;
+    let end = fact.find(|c| {
+        depth += (c == '{') as i32 - (c == '}') as i32;
+        depth == 0
+    });
+    bare(tokens(&fact[..end.expect("its end")]))
 }
 
 /// A text from a line that begins with this word on, without comments, as far as lines stand deeper than that one.
@@ -271,7 +276,7 @@ fn a_changed_word_is_noticed() {
     let changes = [
         (
             "start_write",
-            "blocks (k .stripe) coded number reading content",
+            "blocks k.stripe coded number reading content",
             "blocks stripe coded number reading content",
         ),
         (
@@ -281,23 +286,23 @@ fn a_changed_word_is_noticed() {
         ),
         (
             "crash",
-            "crashCall (s .n) (s .m)",
-            "crashCall (s .m) (s .m)",
+            "crash_call s.n s.m",
+            "crash_call s.m s.m",
         ),
         (
             "take_reply",
-            "(k .blocks) (k .stripe) coded r block",
-            "(k .blocks) (k .stripe) coded′ r block",
+            "k.blocks k.stripe coded r block",
+            "k.blocks k.stripe coded' r block",
         ),
         (
             "receive",
-            "rowOutcome s b (r .world .images b) msg lent lentOld out",
-            "rowOutcome s b (r .world .images b) msg block lentOld out",
+            "row_outcome s b (r.world.images b) msg lent lent_old out",
+            "row_outcome s b (r.world.images b) msg block lent_old out",
         ),
         (
             "write_fresh",
-            "w .images b ≡ freshRowAfter s b (before b)",
-            "w .images b ≡ freshRowAfter s 0 (before b)",
+            "w.images b ≡ fresh_row_after s b (before b)",
+            "w.images b ≡ fresh_row_after s 0 (before b)",
         ),
     ];
     for (routine, old, new) in changes {

@@ -1,5 +1,6 @@
-//! Every must-fail edit was refused for a fact that fails, and not for its form. The logs are those that `rt ci` leaves under `target/must-fail`;
-//! where none was tried, as in `.ci/run fast`, there is nothing to read. A full `.ci/run` sets EDITS_TRIED: then each edit has its log.
+//! Every must-fail edit was refused for a fact that fails, and not for its form. `rt ci` says of each edit in one line what refused it, and
+//! .ci/run keeps these lines in `target/proofs.log`; where no edit was tried, as in `.ci/run fast`, there is nothing to read. A full `.ci/run`
+//! sets EDITS_TRIED: then each edit has its line. The lines of `rt must-fail` are the same.
 
 use std::collections::BTreeSet;
 use std::fs;
@@ -26,28 +27,38 @@ fn edits() -> BTreeSet<(String, String)> {
     found
 }
 
-/// The log of an edit; none where it was not tried, or was changed since.
-fn log_of(krate: &str, edit: &str) -> Option<String> {
+/// What `rt ci` printed.
+const SAID: &str = "target/proofs.log";
+
+/// What came of an edit, as its line says it; none where it was not tried, or was changed since.
+fn said_of(all: &str, krate: &str, edit: &str) -> Option<String> {
     let file = root().join("crates").join(krate).join("must-fail").join(edit).with_extension("edit");
-    let log = root().join("target/must-fail").join(krate).join(edit).join(".log");
     let age = |path: &Path| fs::metadata(path).and_then(|about| about.modified()).ok();
-    let text = fs::read(&log).ok().filter(|_| age(&file) <= age(&log))?;
-    Some(String::from_utf8_lossy(&text).into_owned())
+    let head = format!("rt: must-fail {krate}/{edit}.edit: ");
+    let last = all.lines().filter_map(|line| line.strip_prefix(&head)).last()?;
+    (age(&file) <= age(&root().join(SAID))).then(|| last.into())
 }
 
-/// The first error of a log: the file, and what is said, with the indented lines that go on with it.
-fn first_error(log: &str) -> Option<(&str, String)> {
-    let mut lines = log.lines().skip_while(|line| !line.contains(": error"));
-    let (place, said) = lines.next()?.split_once(": error")?;
-    let more = lines.take_while(|line| line.starts_with("  "));
-    Some((place, more.fold(said.into(), |text, line| text + " " + line.trim_start())))
+/// What begins the line of an edit that the check refused; the error follows.
+const REFUSED: &str = "refused, as it must be: ";
+
+/// The error that refused an edit: the file, and what is said. None where the edit was not applied or not read, or is still proved, or was
+/// refused without an error, for a proof file that names what it took away, or by a limit of the prover alone.
+fn error_of(said: &str) -> Option<(&str, &str)> {
+    said.strip_prefix(REFUSED)?.split_once(": error")
 }
 
 /// What the checker notes of a function that has no proof file and whose promise does not follow; it prints no error then.
 const NOT_PROVED: &str = ": it is not proved that what the function ensures holds";
 
-/// Words of an error that speaks of a name, a field, a bracket or the parts of a proof file. No fact that fails is told in them.
-const FORM: [&str; 8] = [
+/// Whether an edit was refused by that note.
+fn is_noted(said: &str) -> bool {
+    said.strip_prefix(REFUSED).is_some_and(|note| note.starts_with("note: src/") && note.contains(NOT_PROVED))
+}
+
+/// Words of an error that speaks of a name, a field, a bracket or the parts of a proof file, or of another error. No fact that fails is told
+/// in them.
+const FORM: [&str; 10] = [
     "is not in scope",
     "that can be named from here",
     "has no field `",
@@ -55,7 +66,9 @@ const FORM: [&str; 8] = [
     "is still open",
     "this pattern needs a function",
     "but this has type `tie.Need-",
+    "but this has type `goal.",
     "was not admitted",
+    "which was rejected",
 ];
 
 /// The checker's own advice on a type that it shows; it speaks of a name, and the error is none of form for it.
@@ -67,53 +80,65 @@ fn is_of_form(place: &str, said: &str) -> bool {
     !place.contains("/proofs/") || FORM.iter().any(|words| said.contains(words))
 }
 
+/// Whether an edit was refused for a fact.
+fn is_for_a_fact(said: &str) -> bool {
+    is_noted(said) || error_of(said).is_some_and(|(place, said)| !is_of_form(place, said))
+}
+
 #[test]
 fn every_edit_is_refused_for_a_fact() {
     let edits = edits();
-    let logs: Vec<_> = edits.iter().filter_map(|(krate, edit)| Some((krate, edit, log_of(krate, edit)?))).collect();
-    println!("{} of {} edits were tried", logs.len(), edits.len());
+    let all = fs::read(root().join(SAID)).unwrap_or_default();
+    let all = String::from_utf8_lossy(&all);
+    let tried: Vec<_> = edits.iter().filter_map(|(krate, edit)| Some((krate, edit, said_of(&all, krate, edit)?))).collect();
+    println!("{} of {} edits were tried", tried.len(), edits.len());
     let asked = std::env::var_os("EDITS_TRIED").is_some();
-    assert!(!asked || logs.len() == edits.len(), "{} of {} edits have a log under target/must-fail", logs.len(), edits.len());
-    let mut wrong = Vec::new();
-    for (krate, edit, log) in &logs {
-        match first_error(log) {
-            Some((place, said)) if is_of_form(place, &said) => wrong.push(format!("{edit} of {krate}: {said:.200}")),
-            Some(_) => {}
-            None if log.contains(NOT_PROVED) => {}
-            None => wrong.push(format!("{edit} of {krate}: no error in its log")),
-        }
-    }
-    assert!(wrong.is_empty(), "refused for their form:\n{}", wrong.join("\n"));
+    assert!(!asked || tried.len() == edits.len(), "{} of {} edits have a line in {SAID}", tried.len(), edits.len());
+    let wrong = tried.iter().filter(|(_, _, said)| !is_for_a_fact(said));
+    let wrong: Vec<String> = wrong.map(|(krate, edit, said)| format!("{edit} of {krate}: {said:.300}")).collect();
+    assert!(wrong.is_empty(), "not refused for a fact:\n{}", wrong.join("\n"));
 }
 
-/// Errors as the checker prints them, of both sorts.
+/// Lines as `rt ci` prints them, of both sorts.
 #[test]
 fn forms_are_told_from_facts() {
     let facts = [
-        "x/proofs/Laws/LittleLaws.antt:27:5: error: `number-little`: `omega`: the goal does not follow from what it read. It fails at `n` = 128",
-        "x/proofs/read2/Proof.antt:28:13: error: `returns`: `search`: no proof of `number`\n  was found. Every way was tried.",
-        "x/proofs/Laws/VolumeLaws.antt:360:70: error: `one-operation-at-a-time`: the two types are `Path ℕ 9 0` (expected) and `Path ℕ 9 9` (found)",
-        "x/proofs/byte/Proof.antt:36:49: error: `loop-again`: the two types first differ where one has `p` (expected)\n  and the other `0` (found)\n\
-         x/proofs/byte/Proof.antt:54:5: error: `byte-spec`: `loop-again` was not admitted, so this cannot be checked",
-        "x/proofs/Laws/UseLaws.antt:51:9: error: `within`: expected type `EndedBefore l x t`, but this has type `EndedBefore l t x`\n\
-         \u{20} `t` is not in scope here, so what is shown does not paste back as it stands",
-        "x/proofs/Laws/RuleLaws.antt:45:53: error: `block-asked`: give a proof of that as the last argument, `rw L t`\n\
-         \u{20} what it leaves must be a path whose two ends are equal, and `Path Bool held (not held)` is none",
+        "./proofs/Laws/LittleLaws.antt:27:5: error: `number_little`: `omega`: the goal does not follow from what it read. All of that holds, and the goal fails, at `n` =",
+        "./proofs/read2/Proof.antt:28:13: error: `returns`: `search`: no proof of `mathlib.Core.Path.◌≡◌ (Prim.Native.Nat.◌+◌ c.wide.result (Prim.Native.Nat.◌*◌ 256 c.wi",
+        "./proofs/Laws/VolumeLaws.antt:360:70: error: `one_operation_at_a_time`: the two types are `Path ℕ 9 0` (expected) and `Path ℕ 9 9` (found)",
+        "./proofs/byte/Proof.antt:36:49: error: `loop-again`: the two types first differ where one has `p` (expected) and the other `0` (found)",
+        "./proofs/Laws/UseLaws.antt:51:9: error: `within`: expected type `EndedBefore l x t`, but this has type `EndedBefore l t x` \
+         `t` is not in scope here, so what is shown does not paste back as it stands",
+        "./proofs/Laws/RuleLaws.antt:45:53: error: `block_asked`: give a proof of that as the last argument, `rw L t`",
+        "note: src/lib.rt:24:1: it is not proved that what the function ensures holds when it returns (`returns`); the facts known there allow values at which this goal ",
     ];
     let forms = [
-        "x/specs/Runs.antt:162:39: error: `repliedWith`: missing field(s) of `Reply`: comparison",
-        "x/specs/Little.antt:9:16: error: `byteOf`: `limitless` is not in scope",
-        "x/specs/Little.antt:12:1: error: this line starts at column 1, but the `(` opened at 9:16 is still open",
-        "x/proofs/read2/Proof.antt:12:12: error: `add-wide`: module `read2.Tie` has no `Need-add-wide` that can be named from here",
-        "x/proofs/byte/Proof.antt:7:19: error: `cast-result`: record `byte.Lts.Start` has no field `before`",
-        "x/proofs/place/Proof.antt:42:86: error: `returns-4`: record `After-slice-known`\n  has no field `refusal`\nfn volume::place: not proved",
-        "x/proofs/byte/Proof.antt:14:45: error: `byte-spec`: expected type `tie.Need-cast-result-2`, but this has type `tie.Need-returns`",
-        "x/proofs/byte/Proof.antt:7:15: error: `cast-result`: this pattern needs a function (or path) type to bind",
-        "x/src/lib.rt:21:25: error[unknown-name]: cannot find value `wider` in this scope",
-        "x/src/lib.rt:21:5: error[mismatched-types]: expected `u64`, found `bool`",
+        "./specs/Runs.antt:162:39: error: `replied_with`: missing field(s) of `Reply`: comparison",
+        "./specs/Little.antt:9:16: error: `byte_of`: `limitless` is not in scope",
+        "./specs/Little.antt:12:1: error: this line starts at column 1, but the `(` opened at 9:16 is still open",
+        "./proofs/read2/Proof.antt:12:12: error: `add-wide`: module `Rattle.byte_lists.proofs.read2.Tie` has no `Need-add-wide` that can be named from here",
+        "./proofs/byte/Proof.antt:7:19: error: `cast-result`: record `byte.Lts.Start` has no field `before`",
+        "./proofs/place/Proof.antt:42:86: error: `returns-4`: record `After-slice-known` has no field `refusal`",
+        "./proofs/byte/Proof.antt:14:45: error: `byte_spec`: expected type `tie.Need-cast-result-2`, but this has type `tie.Need-returns`",
+        "./proofs/byte/Proof.antt:7:15: error: `cast-result`: this pattern needs a function (or path) type to bind",
+        "./proofs/byte/Proof.antt:54:5: error: 1 declaration that depends on `loop-again`, which was not admitted, was not checked: byte_spec",
+        "./proofs/with_up/Proof.antt:14:5: error: 1 declaration that depends on `returns`, which was rejected, was not checked: with_up_spec",
+        "src/lib.rt:21:25: error[unknown-name]: cannot find value `wider` in this scope",
+        "src/lib.rt:21:5: error[mismatched-types]: expected `u64`, found `bool`",
+        "note: ./proofs/byte/Proof.antt:7:15: `cast-result` is not used",
     ];
-    let told = |log: &&str| first_error(log).is_some_and(|(place, said)| is_of_form(place, &said));
-    assert_eq!(facts.iter().filter(|log| told(log)).collect::<Vec<_>>(), Vec::<&&str>::new());
-    assert_eq!(forms.iter().filter(|log| !told(log)).collect::<Vec<_>>(), Vec::<&&str>::new());
-    assert!(first_error("fn byte_lists::byte: proved\nlogic=proved").is_none());
+    let refused = |error: &&&str| is_for_a_fact(&format!("{REFUSED}{error}"));
+    assert_eq!(facts.iter().filter(|error| !refused(error)).collect::<Vec<_>>(), Vec::<&&str>::new());
+    assert_eq!(forms.iter().filter(refused).collect::<Vec<_>>(), Vec::<&&str>::new());
+    let others = [
+        "refused, as it must be",
+        "refused, as it must be (only because a proof file names what the edit took away, so this says little of the contract: change a value and \
+         keep the names): ./proofs/read2/Proof.antt:28:13: error: `returns`: module `Tie` has no `Need-returns`",
+        "refused, as it must be (only by a limit of the prover, which gave no verdict, so this says less of the contract: choose a change that it \
+         refuses sooner): ./proofs/byte/Proof.antt:36:49: error: `loop-again`: antt ran out of stack",
+        "BAD EDIT: an 'old:' text is in src/lib.rt 0 times, and not once",
+        "NOT REFUSED: the crate is still proved with this edit (one that means the same as before cannot be refused: remove it)",
+        "NOT TRIED: its check was killed, most likely for memory, so nothing is known of it: run this again",
+    ];
+    assert_eq!(others.iter().filter(|said| is_for_a_fact(said)).collect::<Vec<_>>(), Vec::<&&str>::new());
 }

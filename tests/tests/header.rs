@@ -4,7 +4,8 @@ use std::fs;
 use std::path::{Path, PathBuf};
 use std::process::Command;
 
-/// The crate, header and library of each, with the numbers that its routines refuse.
+/// The header and library of each, with the numbers that its routines refuse. The C entry points stand in a crate of their own, `erasure_c` of
+/// `erasure`.
 const HEADERS: [(&str, &[u32]); 2] = [("erasure", &[1, 2, 3, 4, 15]), ("volume", &[1, 2, 13])];
 
 fn path(name: &str) -> PathBuf {
@@ -57,7 +58,7 @@ fn the_header_says_every_refusal() {
             let said = header.lines().filter(|line| line.contains("Refused: "));
             assert!(said.flat_map(|line| line.split(&[' ', ',', '.'][..])).any(|word| word == number.to_string()), "{name}: {number}");
         }
-        let source = fs::read_to_string(path(&format!("crates/{name}/src/lib.rt"))).unwrap();
+        let source = fs::read_to_string(path(&format!("crates/{name}_c/src/lib.rt"))).unwrap();
         let routines = source.lines().filter_map(|line| line.strip_prefix("pub extern \"C\" fn "));
         let routines: Vec<&str> = routines.map(|rest| rest.split('(').next().unwrap()).collect();
         assert!(!routines.is_empty(), "{name}");

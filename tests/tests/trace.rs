@@ -38,9 +38,9 @@ fn all_edits() -> BTreeSet<(String, String)> {
     names_in("crates").into_iter().flat_map(of).collect()
 }
 
-/// Whether the text has this as a whole word: names hold letters, digits and `_`, `-`, `'`, `·`.
+/// Whether the text has this as a whole word: names hold letters, digits and `_`, `-`, `'`.
 fn holds(text: &str, word: &str) -> bool {
-    let part = |letter: char| letter.is_alphanumeric() || "_-'·".contains(letter);
+    let part = |letter: char| letter.is_alphanumeric() || "_-'".contains(letter);
     text.match_indices(word).any(|(at, _)| {
         !text[..at].ends_with(part) && !text[at + word.len()..].starts_with(part)
     })
@@ -253,7 +253,7 @@ fn every_edit_fits_its_file() {
 
 /// The names of a text that must be in scope where it stands: not numerals, λ, fields (`.name`, `name =`, `s.name`) or what a path leads to.
 fn needed(text: &str) -> BTreeSet<&str> {
-    let part = |letter: char| letter.is_alphanumeric() || "_-'·".contains(letter);
+    let part = |letter: char| letter.is_alphanumeric() || "_-'".contains(letter);
     let mut found = BTreeSet::new();
     let (mut at, mut before) = (0, ' ');
     for piece in text.split_inclusive(|letter: char| !part(letter)) {
@@ -272,11 +272,21 @@ fn needed(text: &str) -> BTreeSet<&str> {
     found
 }
 
-/// The names that an edit brings along: after `let`, and the first parameter of a function.
+/// Words that each file knows: of the languages themselves, and the library that a whole path begins with.
+const EVERYWHERE: [&str; 3] = ["const", "grind", "mathlib"];
+
+/// Whether a word is the name of a goal that stands in the place of another goal's. Rattle names a goal after the code, so where an edit changes a
+/// test it changes the goal's name too; `edits.rs` reads whether there was such a goal.
+fn is_goal(word: &str, old: &str) -> bool {
+    word.starts_with("Need-") && old.contains("Need-")
+}
+
+/// The names that an edit brings along: after `let` and λ, and the first parameter of a function.
 fn brought(edit: &str) -> BTreeSet<&str> {
     let mut found = BTreeSet::new();
     for line in edit.lines().filter_map(|line| line.strip_prefix("new: ")) {
         found.extend(line.split("let ").skip(1).filter_map(|rest| rest.split(' ').next()));
+        found.extend(line.split("λ ").skip(1).filter_map(|rest| rest.split('.').next()));
         let parameters = line.split_once("fn ").and_then(|(_, rest)| rest.split_once('('));
         found.extend(parameters.and_then(|(_, rest)| Some(rest.split_once(": ")?.0)));
     }
@@ -301,7 +311,8 @@ fn every_edit_names_what_its_file_knows() {
                 "old" => old = text,
                 _ => {
                     let known = needed(old);
-                    let missing = needed(text).into_iter().filter(|name| !known.contains(name) && !own.contains(name) && !holds(&code, name));
+                    let here = |name: &str| known.contains(name) || own.contains(name) || holds(&code, name);
+                    let missing = needed(text).into_iter().filter(|name| !here(name) && !EVERYWHERE.contains(name) && !is_goal(name, old));
                     wrong.extend(missing.map(|name| format!("{file} of {krate}: {name}")));
                 }
             }
@@ -335,8 +346,9 @@ fn every_function_has_a_contract() {
         let found = functions(&source(&krate));
         all += found.len();
         assert!(found.is_empty() || row.contains(&format!("`{krate}`")), "row b does not name {krate}");
-        let mute = found.iter().filter(|function| !function.contains("ensures {"));
-        let names = mute.filter_map(|function| function.split("fn ").nth(1)?.split('(').next());
+        let ensures = |function: &&String| function.lines().any(|line| line.trim_start().starts_with("ensures "));
+        let mute = found.iter().filter(|function| !ensures(function));
+        let names = mute.filter_map(|function| function.split("fn ").nth(1)?.split(['(', '<']).next());
         silent.extend(names.map(|name| format!("`{krate}::{name}`")));
     }
     assert!(row.contains(&format!("all {all} functions of")), "there are {all} functions");

@@ -167,4 +167,5 @@ by_number k ws =
     (cond (eqb k write_command) (write_of ws)
     (cond (eqb k read_command) (read_of ws)
     (cond (eqb k carry_command) (carry_of ws)
-    (cond (eqb k crash_command) (one_of crash_line ws) (cond (eqb k down_command) (one_of down_line ws) (cond (eqb k up_command) (one_of up_line ws) no_line))))))
+    (cond (eqb k crash_command) (one_of crash_line ws) (cond (eqb k down_command) (one_of down_line ws)
+    (cond (eqb k up_command) (one_of up_line ws) no_line))))))

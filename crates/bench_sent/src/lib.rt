@@ -62,7 +62,8 @@ pub fn put_message(
     numbers: &mut [u64],
     bytes: &mut [u8],
 )
-    requires block_len_bound { (length block.now ≤ bench_size) × (k * row_numbers + row_numbers ≤ length numbers.old) × (k * row_bytes + row_bytes ≤ length bytes.old) }
+    requires block_len_bound { (length block.now ≤ bench_size) × (k * row_numbers + row_numbers ≤ length numbers.old)
+        × (k * row_bytes + row_bytes ≤ length bytes.old) }
     requires len { length old.now ≡ length block.now }
     ensures numbers_after { numbers.new ≡ numbers_with k (message_row brick msg) numbers.old }
     ensures bytes_after { bytes.new ≡ old_with k old.now (bytes_with k msg.targets block.now bytes.old) }
@@ -255,7 +256,8 @@ fn send_one(
     numbers: &mut [u64],
     bytes: &mut [u8],
 )
-    requires size_le_bench_size { (size ≤ bench_size) × (at * row_numbers + row_numbers ≤ length numbers.old) × (at * row_bytes + row_bytes ≤ length bytes.old) }
+    requires size_le_bench_size { (size ≤ bench_size) × (at * row_numbers + row_numbers ≤ length numbers.old)
+        × (at * row_bytes + row_bytes ≤ length bytes.old) }
     requires coded { Coded (j + 1) size msg blocks.now stripe.now coded.now }
     ensures { One at j size msg blocks.now stripe.now coded.now numbers.old bytes.old
         numbers.new bytes.new }

@@ -7,7 +7,8 @@ use Rattle.coord_record.specs.declared.Coordinator.{Coordinator}
 use Rattle.coord_record.specs.declared.Geometry.{Geometry}
 use Rattle.coord_record.specs.declared.Op.{Op}
 use Rattle.message.specs.Flags.{members}
-use Rattle.message.specs.Kinds.{read_kind, order_kind, order_read_kind, order_block_kind, write_kind, modify_kind, last_round, first_round, second_round, third_round}
+use Rattle.message.specs.Kinds.{read_kind, order_kind, order_read_kind, order_block_kind, write_kind, modify_kind}
+use Rattle.message.specs.Kinds.{last_round, first_round, second_round, third_round}
 use Rattle.settings.specs.Ranges.{quorum}
 use Rattle.settings.specs.declared.Clock.{Clock}
 use Rattle.settings.specs.Times.{max_count, no_upper_end, time_of, valid_time, last_coordinator}

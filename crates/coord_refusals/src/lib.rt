@@ -3,7 +3,8 @@
 #![tactic(auto)]
 
 ghost use Rattle.std.specs.Prelude.{◌≡◌, true, [], ◌∷◌, ◌*◌, ◌≤◌, ◌<◌};
-ghost use Rattle.coord_refusals.specs.Checks.{record_checks, stripe_checks, write_checks, read_checks, lengths_right, stray_checks, take_refusal, crash_refusal};
+ghost use Rattle.coord_refusals.specs.Checks.{record_checks, stripe_checks, write_checks, read_checks, lengths_right, stray_checks};
+ghost use Rattle.coord_refusals.specs.Checks.{take_refusal, crash_refusal};
 ghost use Rattle.coord_refusals.specs.Checks.{block_checks, read_block_checks, write_block_checks};
 ghost use Rattle.settings.specs.Ranges.{CodeRange, max_bricks, code_refusal, stripe_count_refusal};
 ghost use Rattle.settings.specs.Refusal.{first_refusal};

@@ -4,7 +4,8 @@
 -- The stripe is refusal 13 and the number of a data block 14, both tested before.
 use Rattle.std.specs.Prelude.{Bool, true, cond, not, ◌&&◌, ◌||◌, List, [], ◌∷◌, ℕ, eqb, leb, ltb}
 use Rattle.message.specs.Flags.{brick_set}
-use Rattle.message.specs.Kinds.{read_kind, order_read_kind, order_block_kind, write_kind, modify_kind, trim_kind, drop_kind, block_targets, last_round, first_round}
+use Rattle.message.specs.Kinds.{read_kind, order_read_kind, order_block_kind, write_kind, modify_kind, trim_kind, drop_kind}
+use Rattle.message.specs.Kinds.{block_targets, last_round, first_round}
 use Rattle.message.specs.Kinds.{no_comparison, newer_time, promise_ahead, full_log}
 use Rattle.message.specs.declared.Message.{Message}
 use Rattle.message.specs.declared.Reply.{Reply}

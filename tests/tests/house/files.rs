@@ -22,12 +22,10 @@ impl Place {
         }
     }
 
-    /// The module that a path names, if it is of a crate here: `Rattle·order.specs.Claim`, or `Rattle·order·specs.specs.Claim`.
+    /// The module that a path names, if it is of a crate: `Rattle.order.specs.Claim`.
     pub fn of_path(path: &str) -> Option<Place> {
-        let path = path.strip_prefix("package.").unwrap_or(path);
-        let (krate, rest) = path.strip_prefix("Rattle·")?.split_once('.')?;
+        let (krate, rest) = path.strip_prefix("Rattle.")?.split_once('.')?;
         let (part, module) = rest.split_once('.')?;
-        let krate = krate.split('·').next()?;
         (["specs", "proofs"].contains(&part) && !module.is_empty())
             .then(|| Place::new(krate, part, module))
     }
@@ -75,7 +73,8 @@ pub fn pieces(text: &str) -> impl Iterator<Item = &str> {
         .filter(|piece| !piece.is_empty())
 }
 
-/// The words that may cite a name: all pieces but projections as `.size`; of a dotted one its parts too.
+/// The words that may cite a name: all pieces but projections as `.size`; of a dotted one, as `s.size` or `tie.close`, what stands before the
+/// first dot. (`Repo::cites` looks up a name behind a module's.)
 pub fn words(text: &str) -> HashSet<&str> {
     let mut found = HashSet::new();
     if text.contains("[]") {
@@ -83,14 +82,15 @@ pub fn words(text: &str) -> HashSet<&str> {
     }
     for piece in pieces(text).filter(|piece| !piece.starts_with('.')) {
         let word = piece.trim_end_matches('.');
-        found.insert(word);
-        found.extend(word.split('.'));
-        found.extend(word.strip_prefix(['¬', '←']));
+        for word in [Some(word), word.strip_prefix(['¬', '←'])].into_iter().flatten() {
+            found.insert(word);
+            found.extend(word.split('.').next());
+        }
     }
     found
 }
 
-/// Whether the words may cite the name. An operator as `_≡_` is cited by its parts; a sign may stick to another word.
+/// Whether the words may cite the name. An operator as `◌≡◌` is cited by its parts; a sign may stick to another word.
 pub fn cites(words: &HashSet<&str>, name: &str) -> bool {
     let sticks = |part: &str| {
         !part.starts_with(char::is_alphanumeric)
@@ -98,9 +98,9 @@ pub fn cites(words: &HashSet<&str>, name: &str) -> bool {
                 .iter()
                 .any(|word| word.starts_with(part) || word.ends_with(part))
     };
-    let mut parts = name.split('_').filter(|part| !part.is_empty()).peekable();
+    let mut parts = name.split('◌').filter(|part| !part.is_empty()).peekable();
     words.contains(name)
-        || name.contains('_')
+        || name.contains('◌')
             && parts.peek().is_some()
             && parts.all(|part| words.contains(part) || sticks(part))
 }
@@ -378,9 +378,12 @@ impl Source {
                     text = text + " " + lines.next().unwrap().trim();
                 }
                 ghosts.push(Use::read(&text, false));
-            } else if let Some(path) = line.strip_prefix("use ") {
-                let name = path.trim_end_matches(';').rsplit("::").next().unwrap();
-                imports.push(name.to_string());
+            } else if let Some(first) = line.strip_prefix("use ") {
+                let mut text = first.to_string();
+                while !text.trim_end().ends_with(';') {
+                    text = text + " " + lines.next().unwrap().trim();
+                }
+                imports.extend(imported(&text));
             } else {
                 rest.push(line.split(" // ").next().unwrap());
             }
@@ -397,6 +400,18 @@ impl Source {
             functions,
         }
     }
+}
+
+/// The names that a `use` of code brings: `coord_record::{Op, Tally};`.
+fn imported(text: &str) -> Vec<String> {
+    let text = text.trim_end().trim_end_matches(';');
+    let names = match text.split_once('{') {
+        Some((_, names)) => names.strip_suffix('}').expect("one pair of braces"),
+        None => text,
+    };
+    assert!(!names.contains(['{', '}']), "braces in braces: {text}");
+    let last = |name: &str| name.rsplit("::").next().unwrap().rsplit(" as ").next().unwrap().trim().to_string();
+    names.split(',').map(last).filter(|name| !name.is_empty()).collect()
 }
 
 fn functions(lines: &[&str]) -> Vec<Function> {

@@ -37,7 +37,7 @@ pub fn contracts(repo: &Repo) -> (Set, Vec<String>) {
             for function in source.functions.iter().filter(|f| f.name == *name) {
                 there = true;
                 cited.extend(repo.cited_in(source, &function.contract));
-                if function.contract.contains("requires {") {
+                if function.contract.lines().any(|line| line.trim_start().starts_with("requires")) {
                     wrong.push(format!("{krate}::{name} asks something of its caller"));
                 }
             }

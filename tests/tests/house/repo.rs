@@ -53,7 +53,7 @@ impl Repo {
     pub fn read() -> Repo {
         let list = read("crates.txt");
         let lines = list.lines().filter_map(|line| line.split('#').next());
-        let names = lines.filter_map(|line| Some(line.split_once(':')?.0.trim().to_string()));
+        let names = lines.filter_map(|line| Some(line.split_once(':')?.0.split_whitespace().next()?.to_string()));
         let crates: Vec<String> = names.collect();
         let (mut modules, mut sources, mut decls) = (Vec::new(), Vec::new(), Vec::new());
         for krate in &crates {

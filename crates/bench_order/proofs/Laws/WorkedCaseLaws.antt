@@ -3,9 +3,11 @@ use mathlib.Core.Path.{refl}
 use Rattle.register.proofs.Laws.Opened.{all_open}
 use Rattle.bench_order.specs.CaseTheorem.{WorkedCasePrintsAsGiven}
 use Rattle.bench_order.specs.WorkedCase.{worked_input, worked_output}
-use Rattle.bench_parse.specs.Lines.{every, longer, words, is_digit, number_word, value_after, value_of, numbers_of, is_lower, is_upper, is_hex, hex_value, hex_word, bytes_of, are_numbers, number_in, set_of}
+use Rattle.bench_parse.specs.Lines.{every, longer, words, is_digit, number_word, value_after, value_of, numbers_of, is_lower, is_upper}
+use Rattle.bench_parse.specs.Lines.{is_hex, hex_value, hex_word, bytes_of, are_numbers, number_in, set_of}
 use Rattle.bench_parse.specs.Lines.{write_words, write_of, read_of, carry_of, one_of, set_text, write_text, read_text, carry_text, crash_text, down_text, up_text, command_of, reads_words, reads}
-use Rattle.bench_print.specs.Printing.{refused_word, read_word, write_word, ok_word, abort_word, cut_word, digits_from, decimal, hex_digit, hex_text, refused_text, kind_word, end_word, line_text, is_end, ended_text}
+use Rattle.bench_print.specs.Printing.{refused_word, read_word, write_word, ok_word, abort_word, cut_word, digits_from, decimal, hex_digit}
+use Rattle.bench_print.specs.Printing.{hex_text, refused_text, kind_word, end_word, line_text, is_end, ended_text}
 use Rattle.byte_lists.specs.Lists.{same}
 use Rattle.bench_state.specs.State.{bench_limits, bench_range}
 use Rattle.bench_rules.specs.Content.{counted, content}

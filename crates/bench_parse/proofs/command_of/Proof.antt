@@ -60,4 +60,5 @@ returns-8 c = search (rules, command_0)
 pub command_of_spec : {M : Type 1} → statement M
 command_of_spec =
     tie.close
-    (tie.spec same-word-requires returns same-word-requires-2 returns-2 same-word-requires-3 returns-3 same-word-requires-4 returns-4 same-word-requires-5 returns-5 same-word-requires-6 returns-6 same-word-requires-7 returns-7 returns-8)
+    (tie.spec same-word-requires returns same-word-requires-2 returns-2 same-word-requires-3 returns-3 same-word-requires-4 returns-4
+    same-word-requires-5 returns-5 same-word-requires-6 returns-6 same-word-requires-7 returns-7 returns-8)

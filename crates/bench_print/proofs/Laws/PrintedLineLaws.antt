@@ -8,7 +8,8 @@ use lib.ListN.{length, length-append}
 use Rattle.coord_record.specs.Records.{reading_kind}
 use Rattle.coord_apply.specs.Answers.{ok_seen, read_seen, aborted_seen, cut_seen}
 use Rattle.coord_apply.specs.declared.Notice.{Notice}
-use Rattle.bench_print.specs.Printing.{most_decimals, space, newline, decimal, hex_text, refused_word, refused_text, read_word, write_word, kind_word, ok_word, abort_word, cut_word, end_word, line_text}
+use Rattle.bench_print.specs.Printing.{most_decimals, space, newline, decimal, hex_text, refused_word, refused_text, read_word, write_word}
+use Rattle.bench_print.specs.Printing.{kind_word, ok_word, abort_word, cut_word, end_word, line_text}
 use Rattle.bench_print.specs.Printing.{is_end, ended_text, printed_into}
 use Rattle.bench_print.proofs.Laws.TextLaws.{decimal_short}
 use Rattle.bench_print.specs.Workers.{ended_room, PrintedAt}

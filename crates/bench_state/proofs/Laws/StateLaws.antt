@@ -135,7 +135,8 @@ module _ (s : Settings) (small : Small s) where
       by j (no q) (no u) = rw (ne_eqb j c q, le-ltb j bench_coordinators (omega arith)) refl
       by j (no q) (yes u) =
           rw (ne_eqb j c q, lt-ltb j bench_coordinators u, get_or-set_other cs c j next (idle_at s j) q)
-          (ap₂ (holding (get_or cs j (idle_at s j))) (other (j * kept_room) (s.n * s.size) (apart-blocks (dec_lt j c))) (other (j * kept_room + stripe_room) (s.m * s.size) (apart-stripe (dec_lt j c))))
+          (ap₂ (holding (get_or cs j (idle_at s j))) (other (j * kept_room) (s.n * s.size) (apart-blocks (dec_lt j c)))
+          (other (j * kept_room + stripe_room) (s.m * s.size) (apart-stripe (dec_lt j c))))
         where
           apart-blocks : Dec (j < c) → (j * kept_room + s.n * s.size ≤ c * kept_room) ⊎ (c * kept_room + kept_room ≤ j * kept_room)
           apart-blocks (yes v) = inl (let p = small.blocks-fit in omega arith)

@@ -11,7 +11,8 @@ use borrow.Author.Tests.{eq-eqb, ne_eqb, le-leb, lt-ltb, le-ltb, eqb-false, leb-
 use Rattle.coord_apply.proofs.Laws.ActLaws.{recover_either}
 use Rattle.coord_apply.specs.Acts.{next_op, opened, sending_first, next_round, modifying, ending, named_bricks, acted, with_tally, counting, waiting_or, first_op, starting}
 use Rattle.coord_apply.specs.Answers.{Buffered, Went, Step, refused, went, after_checks, nothing_seen, cut_seen}
-use Rattle.coord_refusals.specs.Checks.{record_checks, stripe_checks, write_checks, read_checks, start_checks, write_refusal, read_refusal, write_block_refusal, read_block_refusal, take_refusal, crash_refusal}
+use Rattle.coord_refusals.specs.Checks.{record_checks, stripe_checks, write_checks, read_checks, start_checks, write_refusal, read_refusal}
+use Rattle.coord_refusals.specs.Checks.{write_block_refusal, read_block_refusal, take_refusal, crash_refusal}
 use Rattle.coord_refusals.proofs.Laws.RefusedLaws.{record_passes, stripe_passes}
 use Rattle.coordinator.specs.Routines.{drawn_then, write_step, read_step, write_block_step, read_block_step, take_step, crashed, crash_step}
 use Rattle.coordinator.proofs.Laws.RoutineLaws.{take_passed, first_low, write_block_passed, read_block_passed}

@@ -36,7 +36,11 @@ loop-less : tie.Need-loop-b-smaller invariant-loop decreases-loop
 loop-less c = omega arith
 
 loop-again : tie.Need-loop-b-preserved invariant-loop decreases-loop
-loop-again c = (omega arith, below_more _ _ c.loop-b.invariant.1 (⊎_elim (λ w. said_yes _ _ _ w.if-granted-b-ne1.false) (λ w. not_counted _ _ _ w.if-counted-b-eq1.false) c.if-counted-b-eq1.branch-raw))
+loop-again c = (
+  omega arith,
+  below_more _ _ c.loop-b.invariant.1
+      (⊎_elim (λ w. said_yes _ _ _ w.if-granted-b-ne1.false) (λ w. not_counted _ _ _ w.if-counted-b-eq1.false) c.if-counted-b-eq1.branch-raw),
+)
 
 returns-2 : tie.Need-returns invariant-loop decreases-loop
 returns-2 c = found_none _ _ _ c.loop-b-test.false c.loop-b.invariant.1

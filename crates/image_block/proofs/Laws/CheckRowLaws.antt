@@ -117,7 +117,8 @@ pub record Rows (l : List ℕ) (sum past at : ℕ) : Type 0 where
   pub so_far : sum + weighted (past + 1) (drop at l) ≡ 1 + weighted 1 (drop check_bytes l)
   pub bound : sum ≤ 1 + (body_bytes * 255) * at
 
-pub rows_first : (l : List ℕ) (first : ℕ) → first ≡ weighted 1 (take (sum_row_bytes - check_bytes) (drop check_bytes l)) → first ≤ rising_most → Rows l (1 + first) (sum_row_bytes - check_bytes) sum_row_bytes
+pub rows_first : (l : List ℕ) (first : ℕ) → first ≡ weighted 1 (take (sum_row_bytes - check_bytes) (drop check_bytes l)) → first ≤ rising_most
+    → Rows l (1 + first) (sum_row_bytes - check_bytes) sum_row_bytes
 rows_first l first e h =
     let w = rw drop-drop at (weighted_cut 1 (sum_row_bytes - check_bytes) (drop check_bytes l)) in
     record {

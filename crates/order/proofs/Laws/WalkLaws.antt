@@ -10,7 +10,7 @@ use lib.ListN.{length}
 use Rattle.order.specs.Claim.{Plain, Seen, finished, ◌∈◌, Right}
 use Rattle.order.specs.Places.{In}
 use Rattle.order.proofs.Laws.PlaceLaws.{suf_below, in_suf}
-use Rattle.order.specs.Facts.{Source, itself, over, began, launched, ended, History, seen}
+use Rattle.order.specs.Facts.{Source, itself, over, began, launched, History, seen}
 use Rattle.order.specs.Quorums.{Quorums}
 use Rattle.order.specs.Valid.{Launched, Valid, Val, sets, onto}
 use Rattle.order.proofs.Laws.FactLaws.{ok_at, one_kind}

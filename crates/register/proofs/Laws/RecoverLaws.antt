@@ -24,7 +24,8 @@ use Rattle.coord_laws.specs.OpCases.{can_recover}
 use Rattle.coord_tally.specs.Counting.{said_no, highest, at_time, at_times, first_givers}
 use Rattle.coord_tally.specs.FirstTheorem.{FirstOf, Passing}
 use Rattle.coord_blocks.specs.Blocks.{stripe_from, agreeing, stored_stripe}
-use Rattle.coord_apply.specs.Acts.{round_message, clear_message, clearing, drops_first, sending_first, next_op, opened, next_round, named_bricks, givers_at, picked_at, recovered_stripe, storing, acted}
+use Rattle.coord_apply.specs.Acts.{round_message, clear_message, clearing, drops_first, sending_first, next_op, opened, next_round}
+use Rattle.coord_apply.specs.Acts.{named_bricks, givers_at, picked_at, recovered_stripe, storing, acted}
 use Rattle.coord_apply.proofs.Laws.ActLaws.{recover_agreed}
 use Rattle.coord_apply.proofs.Laws.FirstLaws.{TrimsEarly, drops_either, trims_either}
 use Rattle.coord_decide.specs.declared.Decision.TheVariants.{Recover}

@@ -44,7 +44,8 @@ use Rattle.order.proofs.Laws.SeenLaws.{seen_began_in}
 use Rattle.register.specs.Runs.{plain, Item, message, reply, World, Event, start_write, start_read, start_write_block, start_read_block, arrives}
 use Rattle.register.specs.Runs.{crashes, goes_down, comes_up, Left, Moved, unmoved, fresh_set}
 use Rattle.register.specs.Runs.{put_at, on_stripe, seen_of, broadcasts, replied_with, coordinated, received, arriving, arriving_at, standing, leaving, left_by, step, next_moved, run_from, run}
-use Rattle.register.specs.Volumes.{message_on, changes_image, StripesApart, item_stripe, arrival_stripe, sent_at, SentOnItsStripe, NothingSeenPastTheStripes, OneClock, write_below_busy, read_below_busy}
+use Rattle.register.specs.Volumes.{message_on, changes_image, StripesApart, item_stripe, arrival_stripe, sent_at, SentOnItsStripe}
+use Rattle.register.specs.Volumes.{NothingSeenPastTheStripes, OneClock, write_below_busy, read_below_busy}
 use Rattle.register.specs.Volumes.{write_block_below_busy, read_block_below_busy, OneOperationAtATime}
 use Rattle.register.specs.RefusedEvents.{event_number}
 use Rattle.register.proofs.Laws.BeganLaws.{shown_told, crash_begins_none, crash_sends_none}

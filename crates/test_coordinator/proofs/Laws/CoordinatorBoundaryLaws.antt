@@ -12,11 +12,13 @@ use borrow.Rule.Slice.PartMut.{put_mid, Post-is}
 use Rattle.byte_lists.proofs.Laws.PutLaws.{stores}
 use Rattle.byte_lists.specs.Lists.{tabulate}
 use Rattle.byte_lists.proofs.Laws.TabulateLaws.{tabulate_by}
-use Rattle.test_coordinator.specs.CoordinatorBoundary.{record_numbers_length, record_bytes_length, answer_numbers_length, answer_bytes_length, coordinator_at, last_at, record_time_at, round_at, max_at}
+use Rattle.test_coordinator.specs.CoordinatorBoundary.{record_numbers_length, record_bytes_length, answer_numbers_length, answer_bytes_length}
+use Rattle.test_coordinator.specs.CoordinatorBoundary.{coordinator_at, last_at, record_time_at, round_at, max_at}
 use Rattle.test_coordinator.specs.CoordinatorBoundary.{first_at, record_n_at, record_m_at, record_size_at, record_stripes_at, record_stripe_at, record_found_at}
 use Rattle.test_coordinator.specs.CoordinatorBoundary.{kind_at, phase_at, counted_at, granted_at, record_held_at, bricks_at, said_at}
 use Rattle.test_coordinator.specs.CoordinatorBoundary.{targets_at, seen_bricks_at, second_targets_at, second_kind_at, seen_letter_at, lent_refusal, rows_refusal}
-use Rattle.test_coordinator.specs.CoordinatorBoundary.{record_for, record_numbers, record_bytes, answer_numbers, answer_bytes, Rows, rows, lent_lengths, laid_out, at_boundary, crossing, row_put, row_at}
+use Rattle.test_coordinator.specs.CoordinatorBoundary.{record_for, record_numbers, record_bytes, answer_numbers, answer_bytes}
+use Rattle.test_coordinator.specs.CoordinatorBoundary.{Rows, rows, lent_lengths, laid_out, at_boundary, crossing, row_put, row_at}
 use Rattle.coord_apply.specs.Answers.{Returned, returned}
 use Rattle.settings.specs.Ranges.{max_bricks, code_refusal, stripe_count_refusal}
 use Rattle.settings.specs.Refusal.{passed, first_refusal, bad_length}
