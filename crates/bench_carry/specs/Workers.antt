@@ -12,8 +12,8 @@ use Rattle.register.specs.Runs.{Event}
 use Rattle.bench_limits.specs.Limits.{line_room}
 
 -- a byte of a carry line prints so many at most: a number takes two bytes or more, and prints one line
-abbrev text_aByte : ℕ
-text_aByte = line_room / 2
+abbrev text_a_byte : ℕ
+text_a_byte = line_room / 2
 
 -- The loop over a line's numbers: text is what was printed so far, happened the events so far, and the rest of the numbers is still to be carried.
 -- Without an event so far every byte of the record and of the buffers is kept.
@@ -25,7 +25,7 @@ pub record Carrying (b : Bench) (l : Lent) (line : List ℕ) (first : ℕ) (out 
   pub out-long : length out' ≡ length out
   pub text-is : out' ≡ printed_into 0 text out
   pub used-is : r.used ≡ length text
-  pub room : r.used ≤ text_aByte * place
+  pub room : r.used ≤ text_a_byte * place
   pub rest : CarryRest line place
   pub world-so : (carried_all b.settings (world_in b l) (numbers_of (words_from line first))).world
       ≡ (carried_all b.settings (world_in r.bench l') (numbers_of (words_from line place))).world

@@ -41,11 +41,11 @@ max_at = 4
 abbrev pub first_at : ℕ
 first_at = 5
 
-abbrev pub record_nAt : ℕ
-record_nAt = 6
+abbrev pub record_n_at : ℕ
+record_n_at = 6
 
-abbrev pub record_mAt : ℕ
-record_mAt = 7
+abbrev pub record_m_at : ℕ
+record_m_at = 7
 
 abbrev pub record_size_at : ℕ
 record_size_at = 8
@@ -117,8 +117,8 @@ record_for numbers bytes =
     record {
       geometry =
           record {
-            n = get_or numbers record_nAt 0;
-            m = get_or numbers record_mAt 0;
+            n = get_or numbers record_n_at 0;
+            m = get_or numbers record_m_at 0;
             size = get_or numbers record_size_at 0;
             stripes = get_or numbers record_stripes_at 0;
           };

@@ -18,34 +18,34 @@ use Rattle.coordinator.specs.Routines.{take_step, crashed, crash_step, drawn_the
 use Rattle.bench_commit.proofs.Laws.CommitLaws.{Numbered}
 
 -- a property of what was done, or of nothing where it was refused
-abbrev pub Went-so : (Went → Type 0) → Step → Type 0
-Went-so P (refused number) = Unit {0}
-Went-so P (went g) = P g
+abbrev pub WentSo : (Went → Type 0) → Step → Type 0
+WentSo P (refused number) = Unit {0}
+WentSo P (went g) = P g
 
-pub so_checked : (P : Went → Type 0) (k : ℕ) (p : Step) → Went-so P p → Went-so P (after_checks k p)
+pub so_checked : (P : Went → Type 0) (k : ℕ) (p : Step) → WentSo P p → WentSo P (after_checks k p)
 unfolding after_checks
 so_checked P k p h = go (leb k 0)
   where
-    go : (b : Bool) → Went-so P (cond b p (refused k))
+    go : (b : Bool) → WentSo P (cond b p (refused k))
     go true = h
     go false = tt
 
-pub so_drawn : (P : Went → Type 0) (d : Draw) (f : ℕ → Clock → Went) → ((t : ℕ) (c : Clock) → P (f t c)) → Went-so P (drawn_then d f)
+pub so_drawn : (P : Went → Type 0) (d : Draw) (f : ℕ → Clock → Went) → ((t : ℕ) (c : Clock) → P (f t c)) → WentSo P (drawn_then d f)
 unfolding drawn_then
 so_drawn P (Drawn t c) f h = h t c
 so_drawn P (Refused k) f h = tt
 
-blocks_of_lem : (h : Buffered) (p : Step) → Went-so (λ (g : Went). g.next.blocks ≡ h.blocks) p → blocks_after h p ≡ h.blocks
+blocks_of_lem : (h : Buffered) (p : Step) → WentSo (λ (g : Went). g.next.blocks ≡ h.blocks) p → blocks_after h p ≡ h.blocks
 unfolding blocks_after
 blocks_of_lem h (refused k) e = refl
 blocks_of_lem h (went g) e = e
 
-stripe_of_lem : (h : Buffered) (p : Step) → Went-so (λ (g : Went). g.next.stripe ≡ h.stripe) p → stripe_after h p ≡ h.stripe
+stripe_of_lem : (h : Buffered) (p : Step) → WentSo (λ (g : Went). g.next.stripe ≡ h.stripe) p → stripe_after h p ≡ h.stripe
 unfolding stripe_after
 stripe_of_lem h (refused k) e = refl
 stripe_of_lem h (went g) e = e
 
-coded_of_lem : (old : List ℕ) (p : Step) → Went-so (λ (g : Went). sent_blocks g.sent old ≡ old) p → coded_after old p ≡ old
+coded_of_lem : (old : List ℕ) (p : Step) → WentSo (λ (g : Went). sent_blocks g.sent old ≡ old) p → coded_after old p ≡ old
 unfolding coded_after
 coded_of_lem old (refused k) e = refl
 coded_of_lem old (went g) e = e
@@ -99,7 +99,7 @@ module _ (n m size stripes : ℕ) (h : Buffered) where
     unfolding read_step starting sent_blocks round_message first_op
     read_coded old = coded_of_lem old _ (so_checked _ _ _ (so_drawn _ (draw_of h.state.clock reading) _ (λ t c. refl)))
 
-  pub crash_so : (P : Went → Type 0) → P (record { next = h; sent = []; seen = nothing_seen }) → P (ending n h h.stripe [] cut_seen no_bricks) → Went-so P (crash_step n m size stripes h)
+  pub crash_so : (P : Went → Type 0) → P (record { next = h; sent = []; seen = nothing_seen }) → P (ending n h h.stripe [] cut_seen no_bricks) → WentSo P (crash_step n m size stripes h)
   unfolding crash_step crashed
   crash_so P a b = so_checked P _ (went (crashed n h)) (go (eqb h.state.op.kind idle_kind))
     where

@@ -36,7 +36,7 @@ use Rattle.coord_laws.proofs.Laws.StepRunLaws.{took}
 use Rattle.register.specs.Driver.{Short}
 use Rattle.register.proofs.Laws.DriverLaws.{few_returned, write_short, read_short, crash_short, take_short}
 use Rattle.bench_commit.specs.Workers.{Lists}
-use Rattle.bench_commit.proofs.Laws.CommitStepLaws.{Went-so, so_checked, so_drawn, crash_so}
+use Rattle.bench_commit.proofs.Laws.CommitStepLaws.{WentSo, so_checked, so_drawn, crash_so}
 
 -- each Modify among these broadcasts is of a block below m
 abbrev NamesLow : (m : ℕ) → List Broadcast → Type 0
@@ -58,12 +58,12 @@ module _ (m : ℕ) (c : Coordinator) where
   abbrev SecondLow : Answer → Type 0
   SecondLow a = a.second.kind ≡ modify_kind → a.second.block < m
 
-  first_low : (p : Step) → Went-so (λ (g : Went). NamesLow m g.sent) p → FirstLow (answer_of c p)
+  first_low : (p : Step) → WentSo (λ (g : Went). NamesLow m g.sent) p → FirstLow (answer_of c p)
   unfolding answer_of no_message
   first_low (refused k) h e = absurd (omega (arith, e))
   first_low (went g) h e = names_at m 0 g.sent h e
 
-  second_low : (p : Step) → Went-so (λ (g : Went). NamesLow m g.sent) p → SecondLow (answer_of c p)
+  second_low : (p : Step) → WentSo (λ (g : Went). NamesLow m g.sent) p → SecondLow (answer_of c p)
   unfolding answer_of no_message
   second_low (refused k) h e = absurd (omega (arith, e))
   second_low (went g) h e = names_at m 1 g.sent h e
@@ -113,11 +113,11 @@ module _ (n m size : ℕ) (h : Buffered) (right : op_right h.state.op ≡ true) 
       go false = acted_low (decided n m h.state.op h.state.tally) (decided_says n m h.state.op h.state.tally)
 
 take_low : (n m size stripes : ℕ) (h : Buffered) (r : Reply) (block : List ℕ) (coded : ℕ)
-    → Went-so (λ (g : Went). NamesLow m g.sent) (take_step n m size stripes h r block coded)
+    → WentSo (λ (g : Went). NamesLow m g.sent) (take_step n m size stripes h r block coded)
 unfolding counting with_tally
 take_low n m size stripes h r block coded = go (take_step n m size stripes h r block coded) refl
   where
-    go : (p : Step) → take_step n m size stripes h r block coded ≡ p → Went-so (λ (g : Went). NamesLow m g.sent) p
+    go : (p : Step) → take_step n m size stripes h r block coded ≡ p → WentSo (λ (g : Went). NamesLow m g.sent) p
     go (refused k) e = tt
     go (went g) e =
         let t = took n m size stripes h r block coded g e in
@@ -125,7 +125,7 @@ take_low n m size stripes h r block coded = go (take_step n m size stripes h r b
 
 -- What a call left is such an answer.
 module _ (n m size stripes : ℕ) (c : Coordinator) (blocks stripe coded : List ℕ) (a : Answer) (blocks' stripe' coded' : List ℕ) where
-  lists_returned : (p : Step) → Short size p → Went-so (λ (g : Went). NamesLow m g.sent) p
+  lists_returned : (p : Step) → Short size p → WentSo (λ (g : Went). NamesLow m g.sent) p
       → returned a blocks' stripe' coded' ≡ returned_by (buffered c blocks stripe) coded p → Lists m a.sent a.message a.second
   lists_returned p h l e =
       let q = sym (returned_answer c blocks stripe coded p a blocks' stripe' coded' e) in

@@ -1,3 +1,4 @@
+use mathlib.Core.Path.{refl}
 use Rattle.bench_state.specs.Workers.{fresh_bench}
 use borrow.Author.Rules.{rules}
 use Rattle.bench_state.proofs.new_bench.Statement.{statement}
@@ -17,7 +18,10 @@ new-coordinator-requires-4 c κs = search rules
 
 returns : tie.Need-returns
 unfolding fresh_bench
-returns c = cc
+returns c =
+    rw
+    c.new_coordinator-a.ensures
+    (rw c.new_coordinator-b.ensures (rw c.new_coordinator-c.ensures (rw c.new_coordinator-d.ensures refl)))
 
 pub new_bench_spec : {M : Type 1} → statement M
 new_bench_spec =

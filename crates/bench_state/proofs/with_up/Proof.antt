@@ -1,3 +1,4 @@
+use mathlib.Core.Path.{refl}
 use Rattle.bench_state.specs.Workers.{with_up}
 use borrow.Author.Rules.{rules}
 use Rattle.bench_state.proofs.with_up.Statement.{statement}
@@ -8,7 +9,7 @@ array-write-up c = search rules
 
 returns : tie.Need-returns
 unfolding with_up
-returns c = (cc, search rules)
+returns c = (refl, search rules)
 
 pub with_up_spec : {M : Type 1} → statement M
 with_up_spec = tie.close (tie.spec array-write-up returns)

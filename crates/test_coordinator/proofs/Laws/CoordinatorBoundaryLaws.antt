@@ -14,7 +14,7 @@ use Rattle.byte_lists.specs.Lists.{tabulate}
 use Rattle.byte_lists.proofs.Laws.TabulateLaws.{tabulate_by}
 use Rattle.test_coordinator.specs.CoordinatorBoundary.{record_numbers_length, record_bytes_length, answer_numbers_length, answer_bytes_length}
 use Rattle.test_coordinator.specs.CoordinatorBoundary.{coordinator_at, last_at, record_time_at, round_at, max_at}
-use Rattle.test_coordinator.specs.CoordinatorBoundary.{first_at, record_nAt, record_mAt, record_size_at, record_stripes_at, record_stripe_at, record_found_at}
+use Rattle.test_coordinator.specs.CoordinatorBoundary.{first_at, record_n_at, record_m_at, record_size_at, record_stripes_at, record_stripe_at, record_found_at}
 use Rattle.test_coordinator.specs.CoordinatorBoundary.{kind_at, phase_at, counted_at, granted_at, record_held_at, bricks_at, said_at}
 use Rattle.test_coordinator.specs.CoordinatorBoundary.{targets_at, seen_bricks_at, second_targets_at, second_kind_at, seen_letter_at, lent_refusal, rows_refusal}
 use Rattle.test_coordinator.specs.CoordinatorBoundary.{record_for, record_numbers, record_bytes, answer_numbers, answer_bytes}
@@ -218,8 +218,8 @@ pub record_is : (numbers bytes found counted granted held bricks said : List ℕ
     (record {
       geometry =
           record {
-            n = get_or numbers record_nAt 0;
-            m = get_or numbers record_mAt 0;
+            n = get_or numbers record_n_at 0;
+            m = get_or numbers record_m_at 0;
             size = get_or numbers record_size_at 0;
             stripes = get_or numbers record_stripes_at 0;
           };
