@@ -140,6 +140,7 @@ fn forms_are_told_from_facts() {
         "BAD EDIT: an 'old:' text is in src/lib.rt 0 times, and not once",
         "NOT REFUSED: the crate is still proved with this edit (one that means the same as before cannot be refused: remove it)",
         "NOT TRIED: its check was killed, most likely for memory, so nothing is known of it: run this again",
+        "fn byte_lists::byte: proved",
     ];
     assert_eq!(others.iter().filter(|said| is_for_a_fact(said)).collect::<Vec<_>>(), Vec::<&&str>::new());
 }
