@@ -1,15 +1,8 @@
-/* The program `bench` with a `main` in C: the proved routine `bench_run`, with its status. A closed pipe is a write that fails, not a signal. */
-#include <errno.h>
+/* The program `bench`: the proved routine `bench_run`, with its status. A closed pipe is a write that fails, not a signal. */
 #include <signal.h>
 #include <stdint.h>
 
 uint32_t bench_run(void);
-
-/* What the routine asks of the system beside read and write: the number of the last call's error. */
-int32_t rattle_errno(void)
-{
-    return errno;
-}
 
 int main(void)
 {
