@@ -136,6 +136,13 @@ module _ (chunk old : List ℕ) (held₀ : ℕ) (b₀ : Bench) (l₀ : Lent) (ou
     pub passed_all : length chunk ≤ at → ChunkPlayed chunk old held₀ b₀ l₀ out₀ p line l out
     passed_all h = passed_if (λ e. h)
 
+-- after the last line: the end of the input, unless something failed
+pub end_comes : (status : ℕ) → status ≡ goes_on → at_end ≡ cond (eqb status goes_on) at_end status
+end_comes status e = rw e
+
+pub end_stays : (status : ℕ) → (status ≡ goes_on → ⊥) → status ≡ cond (eqb status goes_on) at_end status
+end_stays status h = rw (ne_eqb status goes_on h)
+
 -- what the program leaves with: 0 at the end of the input, else 1
 pub left_well : (status : ℕ) → status ≡ at_end → 0 ≡ left_with status
 unfolding left_with

@@ -7,8 +7,9 @@ use native.Mathlib.Omega.{arith}
 use lib.Dec.{eqb}
 use lib.IntN.{ℤ}
 use lib.ListN.{length, take, length-append}
-use borrow.Author.Tests.{eqb-true}
+use borrow.Author.Tests.{eqb-true, ne_eqb}
 use Rattle.bench_io.specs.Counts.{Moved}
+use Rattle.bench_parse.specs.Lines.{held_length}
 use Rattle.bench_lines.specs.Cutting as cutting
 use Rattle.bench_lines.specs.Cutting.{Cuts, last_line, HandedOn, chunk}
 use Rattle.bench_limits.specs.Limits.{kept_length, images_length, numbers_length, bytes_length, text_length}
@@ -129,6 +130,19 @@ left_some turns left status e h = go (eqb status goes_on) refl e
 left_one_less : (turns left status : ℕ) → left ≡ cond (eqb status goes_on) (turns - 1) 0 → status ≡ goes_on → left ≡ turns - 1
 left_one_less turns left status e s = rw s at e
 
+pub left_less : (turns left status : ℕ) → left ≡ cond (eqb status goes_on) (turns - 1) 0 → 0 < turns → left < turns
+left_less turns left status e h = go (eqb status goes_on) e
+  where
+    go : (a : Bool) → left ≡ cond a (turns - 1) 0 → left < turns
+    go true f = omega (arith, f, h)
+    go false f = omega (arith, f, h)
+
+pub left_going : (turns status : ℕ) → status ≡ goes_on → turns - 1 ≡ cond (eqb status goes_on) (turns - 1) 0
+left_going turns status e = rw e
+
+pub left_none : (turns status : ℕ) → (status ≡ goes_on → ⊥) → 0 ≡ cond (eqb status goes_on) (turns - 1) 0
+left_none turns status h = rw (ne_eqb status goes_on h)
+
 -- where a turn goes on, the held bytes are in the line
 turn_within : {got : ℤ} {interrupted : Bool} {bytes line out line' out' : List ℕ} {p r : Pass} {l l' : Lent}
     → TurnMade got interrupted bytes line p l out r line' l' out' → r.status ≡ goes_on → r.held ≤ length line'
@@ -167,6 +181,28 @@ module _ (line₀ : List ℕ) (l₀ : Lent) (out₀ : List ℕ) (first : Bench) 
         status-is = refl;
         stopped = λ e. omega (arith, s.count e, z);
       }
+
+-- the program's own buffers have the right lengths
+pub run_left : (line : List ℕ) (l : Lent) (out : List ℕ) (status : ℕ) (l' : Lent) (out' : List ℕ) (left : ℕ) → Ran line l out status l' out' → left ≡ left_with status
+    → held_length ≡ length line → images_length ≡ length l.images → kept_length ≡ length l.kept → numbers_length ≡ length l.numbers
+    → bytes_length ≡ length l.bytes → text_length ≡ length out → RunLeft left
+run_left line l out status l' out' left r e h i k n y o =
+    record {
+      line = line;
+      l = l;
+      out = out;
+      status = status;
+      l' = l';
+      out' = out';
+      line-long = sym h;
+      images-long = sym i;
+      kept-long = sym k;
+      numbers-long = sym n;
+      bytes-long = sym y;
+      out-long = sym o;
+      ran = r;
+      left_is = e;
+    }
 
 -- the program leaves with 0 or 1
 pub left_low : (left : ℕ) → RunLeft left → left ≤ 1

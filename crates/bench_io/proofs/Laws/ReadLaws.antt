@@ -9,14 +9,14 @@ use lib.IntN.{ℤ, pos, negsuc}
 use lib.ListN.{length, take}
 use lib.Signed.{lt_z}
 use borrow.Author.Tests.{ltb-false}
-use mir.Syntax.{w64}
+use mir.Syntax.{w32, w64}
 use mir.Val.{SFits, to_z, of_z}
 use mir.Facts.{to_z-of_z, to_z_pos}
 use Rattle.std.specs.Prelude.{Option, None, Some}
 use Rattle.std.specs.Io.KnownBytes.{Consumes, Keeps}
 use Rattle.bench_io.specs.Counts.{clamp_len}
 use Rattle.bench_rules.specs.Turning.{Lent}
-use Rattle.bench_io.specs.Workers.{goes_on, at_end, cannot_read, read_status, arrived, ChunkPlayed, PlayedLast, TurnMade, came, ended, failed}
+use Rattle.bench_io.specs.Workers.{goes_on, at_end, cannot_read, read_status, arrived, Interrupts, ChunkPlayed, PlayedLast, TurnMade, came, ended, failed}
 use Rattle.bench_io.specs.declared.Pass.{Pass}
 
 -- The tests of the code: a signed local holds bits, and the number read back from them is the number.
@@ -49,6 +49,14 @@ module _ (got : ℤ) (interrupted : Bool) (fits : SFits w64 got) where
 
     pub read_failed : interrupted ≡ false → cannot_read ≡ read_status got interrupted
     read_failed e = ap (λ (i : Bool). cond i goes_on cannot_read) (sym e) ∙ negative
+
+-- errno's number, as the code tests it
+module _ (error : ℤ) (fits : SFits w32 error) where
+  pub interrupts : of_z w32 error ≡ 4 → Interrupts error true
+  interrupts e = record { only = λ t. sym (ap (to_z w32) (sym e) ∙ to_z-of_z fits); always = λ t. refl }
+
+  pub interrupts_not : (of_z w32 error ≡ 4 → ⊥) → Interrupts error false
+  interrupts_not h = record { only = λ t. absurd (true≢false (sym t)); always = λ t. absurd (h (ap (of_z w32) t)) }
 
 -- at the end of the input no byte came
 pub none_arrived : (got : ℤ) (interrupted : Bool) → read_status got interrupted ≡ at_end → arrived got ≡ 0
