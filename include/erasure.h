@@ -11,7 +11,8 @@
      stripes are accepted, and decode to bytes that may be of neither; of more than m blocks it is checked that some one stripe has them all
      (15).
    Nothing is kept between calls, and nothing is allocated. 2,048 bytes of stack are enough; this is measured, and not proved: on x86-64, at
-   size 256 and every n and m, stripe_encode took 920 bytes and stripe_decode 1,784, from the return address down, glibc's memset included. (Where a dynamic linker looks memset up only when it is first called, that one call takes the linker's stack besides.)
+   size 256 and every n and m, stripe_encode took 920 bytes and stripe_decode 1,784, from the return address down, glibc's memset included.
+   (Where a dynamic linker looks memset up only when it is first called, that one call takes the linker's stack besides.)
 
    What is returned: 0, done; or a refusal, the lowest that applies, and then no byte is changed:
    1  a setting is out of its range: n 1 to 16, m 1 to n, size (bytes in a block) 1 to 256;
