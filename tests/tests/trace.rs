@@ -272,8 +272,8 @@ fn needed(text: &str) -> BTreeSet<&str> {
     found
 }
 
-/// Words that each file knows: of the languages themselves, and the library that a whole path begins with.
-const EVERYWHERE: [&str; 3] = ["const", "grind", "mathlib"];
+/// Words that each file knows: of the languages themselves, and the libraries that a whole path begins with.
+const EVERYWHERE: [&str; 7] = ["const", "in", "grind", "search", "unfold", "borrow", "mathlib"];
 
 /// Whether a word is the name of a goal that stands in the place of another goal's. Rattle names a goal after the code, so where an edit changes a
 /// test it changes the goal's name too; `edits.rs` reads whether there was such a goal.
