@@ -17,7 +17,8 @@ use Rattle.image.proofs.Laws.LogPlaceLaws.{rises_to}
 use Rattle.image.specs.Opening.{working_log, blank}
 use Rattle.image.specs.declared.Entry.{Entry}
 use Rattle.image_write.specs.Workers.{held_if, removed}
-use Rattle.image_write.proofs.Laws.RemovedLaws.{lowest_length, lowest_time, removed_count, removed_lowest, removed_sound}
+use Rattle.image_write.proofs.Laws.LowestLaws.{lowest_length, lowest_time}
+use Rattle.image_write.proofs.Laws.RemovedLaws.{removed_count, removed_lowest, removed_sound}
 use Rattle.image_write.proofs.Laws.RemovedLaws.{moved as moved_to, moved_above, time_moved, means_moved}
 use Rattle.image_write.specs.Saving.{lowest_held}
 use Rattle.brick_log.specs.BrickRules.{trimmed, trimmed_to}

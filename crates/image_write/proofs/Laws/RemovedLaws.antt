@@ -21,29 +21,13 @@ use Rattle.image.specs.Image.{image_block, image_of}
 use Rattle.image.specs.Parse.{image_block_at, held_in}
 use Rattle.image.proofs.Laws.ImageSoundLaws.{block_slot, slot_held, block_unused}
 use Rattle.image_write.specs.Saving.{block_entry, lowest_held}
+use Rattle.image_write.proofs.Laws.LowestLaws.{lowest_length, lowest_time, lowest_block}
 use Rattle.image_write.specs.Workers.{held_if, removed, held_own, shifted, cleared}
 use Rattle.image_write.proofs.Laws.BlocksLaws.{Blocks, blocks_put, blocks_ext, blocks_is, placed, placed_there, placed_other}
 use Rattle.image_write.proofs.Laws.BlocksLaws.{cleared_of, shifted_of, cleared_blocks, shifted_blocks}
 use Rattle.image_write.proofs.Laws.ImageStepLaws.{image_blocks, slot_same}
 
 -- the lowest entry has its block, the others are as they were
-pub lowest_length : (log : List LogEntry) → length (lowest_held log) ≡ length log
-unfolding lowest_held
-lowest_length [] = refl
-lowest_length (e ∷ log) = refl
-
-pub lowest_time : (log : List LogEntry) (i : ℕ) → (get_or (lowest_held log) i no_entry).time ≡ (get_or log i no_entry).time
-unfolding lowest_held block_entry
-lowest_time [] i = refl
-lowest_time (e ∷ log) zero = refl
-lowest_time (e ∷ log) (suc i) = refl
-
-lowest_block : (log : List LogEntry) (i : ℕ) → (get_or (lowest_held log) i no_entry).block ≡ (get_or log i no_entry).block
-unfolding lowest_held block_entry
-lowest_block [] i = refl
-lowest_block (e ∷ log) zero = refl
-lowest_block (e ∷ log) (suc i) = refl
-
 lowest_mark : (log : List LogEntry) → (get_or (lowest_held log) 0 no_entry).mark ≡ false
 unfolding lowest_held block_entry no_entry
 lowest_mark [] = refl

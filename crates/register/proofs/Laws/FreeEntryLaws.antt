@@ -23,7 +23,7 @@ use Rattle.image.proofs.Laws.LogPlaceLaws.{rises_next, rises_to}
 use Rattle.image.proofs.Laws.ParseLaws.{opened}
 use Rattle.image_write.specs.Saving.{with_promise, lowest_held}
 use Rattle.image_write.proofs.Laws.ImageStepLaws.{appended_count}
-use Rattle.image_write.proofs.Laws.RemovedLaws.{lowest_length}
+use Rattle.image_write.proofs.Laws.LowestLaws.{lowest_length}
 use Rattle.brick_log.specs.BrickRules.{trimmed_to, dropped, dropped_from, yes_to, reply_to, place_for, brick_after, block_after}
 use Rattle.brick_log.proofs.Laws.AnsweredLaws.{after_trim, after_drop, after_read_lem, no_changes_nothing, write_appends, modify_appends, order_promises}
 use Rattle.brick_log.proofs.Laws.TrimLaws.{trim_places}
