@@ -1,5 +1,6 @@
 //! `register/specs/CallLoop` states of each call what its routine's contract ensures. Here both texts are read, and must be the same term: the
-//! contract's, with its parameters renamed as the row says, word for word.
+//! contract's, with its parameters renamed as the row says, word for word. A routine that gives a `Result` has its contract say what stands for
+//! it in the definitions, as `answer_in c result`: that term is renamed as a whole.
 
 use std::fs;
 
@@ -32,8 +33,14 @@ use Stated::{Body, Field, FieldTurned, Premise};
 type Names = &'static [(&'static str, &'static str)];
 
 /// at a coordinator: its record, and the set's settings
-const COORDINATOR: Names =
-    &[("result", "a"), ("n", "s.n"), ("m", "s.m"), ("size", "s.size"), ("stripes", "s.stripes"), ("c", "k.state")];
+const COORDINATOR: Names = &[
+    ("(answer_in c result)", "a"),
+    ("volume.n", "s.n"),
+    ("volume.m", "s.m"),
+    ("volume.size", "s.size"),
+    ("volume.stripes", "s.stripes"),
+    ("c", "k.state"),
+];
 /// a start names its stripe
 const START: Names = &[("stripe_number", "number")];
 /// what a write is handed, and the stripe beside the record
@@ -51,7 +58,7 @@ const REPLY: Names = &[
 ];
 /// a message at a brick
 const MESSAGE: Names = &[
-    ("result", "g"),
+    ("(given_in result)", "g"),
     ("brick", "b"),
     ("block.now", "lent"),
     ("old.now", "lent_old"),
@@ -62,7 +69,7 @@ const ROW_OF_IMAGES: Names = &[("images.old", "(r.world.images b)"), ("images.ne
 const IMAGE: Names = &[("image.old", "(image_at s msg.stripe (r.world.images b))"), ("image.new", "image'")];
 /// a brick whose row is written afresh
 const FRESH: Names = &[("brick", "b"), ("images.old", "(before b)")];
-const NOT_REFUSED: Names = &[("result", "passed")];
+const NOT_REFUSED: Names = &[("refusal_in result", "passed")];
 const LEFT: Names = &[("images.new", "w.images b")];
 const IDLE: Names = &[
     ("result", "(w.coordinators c).state"),

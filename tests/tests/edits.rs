@@ -49,12 +49,14 @@ fn error_of(said: &str) -> Option<(&str, &str)> {
     said.strip_prefix(REFUSED)?.split_once(": error")
 }
 
-/// What the checker notes of a function that has no proof file and whose promise does not follow; it prints no error then.
-const NOT_PROVED: &str = ": it is not proved that what the function ensures holds";
+/// What the checker notes of a goal that has no answer and does not follow; it prints no error then. It says what is not proved: a promise, what a
+/// call asks, a loop's invariant, that a number fits; or it names the goal alone, where a type's invariant is one.
+const NOT_PROVED: [&str; 2] = [": it is not proved that ", ": `search` found no proof (`invariant_of-"];
 
 /// Whether an edit was refused by that note.
 fn is_noted(said: &str) -> bool {
-    said.strip_prefix(REFUSED).is_some_and(|note| note.starts_with("note: src/") && note.contains(NOT_PROVED))
+    let noted = |note: &str| note.starts_with("note: src/") && NOT_PROVED.iter().any(|words| note.contains(words));
+    said.strip_prefix(REFUSED).is_some_and(noted)
 }
 
 /// Words of an error that speaks of a name, a field, a bracket or the parts of a proof file, or of another error. No fact that fails is told
@@ -112,6 +114,10 @@ fn forms_are_told_from_facts() {
          `t` is not in scope here, so what is shown does not paste back as it stands",
         "./proofs/Laws/RuleLaws.antt:45:53: error: `block_asked`: give a proof of that as the last argument, `rw L t`",
         "note: src/lib.rt:24:1: it is not proved that what the function ensures holds when it returns (`returns`); the facts known there allow values at which this goal ",
+        "note: src/lib.rt:104:5: it is not proved that what `keep_answer` requires holds at this call (`keep_answer-requires-clause-sent_value`); `search` gave up",
+        "note: src/lib.rt:80:5: it is not proved that the invariant of the loop holds (`loop-x-init`)",
+        "note: src/lib.rt:105:10: it is not proved that the sum fits its type (at a range `..=n`, `n + 1`) (`overflow_add-result`)",
+        "note: src/lib.rt:92:5: `search` found no proof (`invariant_of-result`); `search` gave up at one of its limits",
     ];
     let forms = [
         "./specs/Runs.antt:162:39: error: `replied_with`: missing field(s) of `Reply`: comparison",
@@ -127,6 +133,7 @@ fn forms_are_told_from_facts() {
         "src/lib.rt:21:25: error[unknown-name]: cannot find value `wider` in this scope",
         "src/lib.rt:21:5: error[mismatched-types]: expected `u64`, found `bool`",
         "note: ./proofs/byte/Proof.antt:7:15: `cast-result` is not used",
+        "note: src/lib.rt:92:5: `search` was not tried here",
     ];
     let refused = |error: &&&str| is_for_a_fact(&format!("{REFUSED}{error}"));
     assert_eq!(facts.iter().filter(|error| !refused(error)).collect::<Vec<_>>(), Vec::<&&str>::new());

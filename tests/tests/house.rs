@@ -8,7 +8,7 @@ mod pages;
 #[path = "house/repo.rs"]
 mod repo;
 
-use files::{pieces, words, Decl, Place};
+use files::{is_attribute, pieces, words, Decl, Place};
 use pages::{contracts, routines, Reading, ALL, ALONE, DEMAND_3, READING, STATEMENTS};
 use repo::{files, path, read, Repo, Set};
 use std::collections::{BTreeMap, BTreeSet};
@@ -269,11 +269,18 @@ fn inner_crates_say_so() {
 }
 
 #[test]
+fn attributes_name_what_is_there() {
+    let lost = repo().sources.iter().flat_map(|source| repo().named_in(source).1);
+    none("paths of attributes that lead to no law or definition", lost);
+}
+
+/// The formatter keeps an attribute on one line: it may be of any length.
+#[test]
 fn no_long_lines() {
     let mut wrong = Vec::new();
     for (folder, longest, known) in LONGEST {
         let mut long = lines_of(folder);
-        long.retain(|(_, line)| line.chars().count() > longest);
+        long.retain(|(_, line)| line.chars().count() > longest && !is_attribute(line));
         let count = long.len();
         if count > known {
             wrong.push(format!("{folder}: {count} over {longest}, {known} known"));
@@ -298,8 +305,8 @@ fn module_names_are_unique() {
     none("modules of one name", twice);
 }
 
-/// Live is what proofs of functions and contracts cite, what documents name in backticks, the top statements with the laws that prove
-/// them, and what those use in turn.
+/// Live is what proofs of functions, contracts and attributes cite, what documents name in backticks, the top statements with the laws that
+/// prove them, and what those use in turn. A rule set uses the laws that it holds.
 #[test]
 fn no_dead_laws() {
     let mut text = read("README.md");
@@ -320,6 +327,7 @@ fn no_dead_laws() {
     }
     for source in &repo().sources {
         live.extend(repo().cited_in(source, &source.code));
+        live.extend(repo().named_in(source).0);
     }
     let top: Set = statements().into_iter().collect();
     let proving = bare_laws()

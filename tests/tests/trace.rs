@@ -276,12 +276,20 @@ fn needed(text: &str) -> BTreeSet<&str> {
 const EVERYWHERE: [&str; 7] = ["const", "in", "grind", "search", "unfold", "borrow", "mathlib"];
 
 /// Whether a word is the name of a goal that stands in the place of another goal's. Rattle names a goal after the code, so where an edit changes a
-/// test it changes the goal's name too; `edits.rs` reads whether there was such a goal.
-fn is_goal(word: &str, old: &str) -> bool {
-    word.starts_with("Need-") && old.contains("Need-")
+/// test it changes the goal's name too; `edits.rs` reads whether there was such a goal. In a file of answers a goal's name is told by the line
+/// that gives its type, `pub NAME : goal.NAME`: the edit changes both names there, the answer's and its goal's.
+fn is_goal(word: &str, old: &str, edit: &str) -> bool {
+    let answered = |line: &str| {
+        let (name, goal) = line.strip_prefix("pub ")?.split_once(" : goal.")?;
+        (name == goal).then(|| name.to_string())
+    };
+    let pairs = || edit.lines().zip(edit.lines().skip(1)).filter_map(|(old, new)| Some((old.strip_prefix("old: ")?, new.strip_prefix("new: ")?)));
+    let mut renamed = pairs().filter_map(|(old, new)| Some((answered(old)?, answered(new)?)));
+    word.starts_with("Need-") && old.contains("Need-") || renamed.any(|(was, now)| now == word && holds(old, &was))
 }
 
-/// The names that an edit brings along: after `let` and λ, and the first parameter of a function.
+/// The names that an edit brings along: after `let` and λ, the first parameter of a function, and what it adds to a `use` of another crate's
+/// constants, functions and types, if they are there.
 fn brought(edit: &str) -> BTreeSet<&str> {
     let mut found = BTreeSet::new();
     for line in edit.lines().filter_map(|line| line.strip_prefix("new: ")) {
@@ -289,6 +297,11 @@ fn brought(edit: &str) -> BTreeSet<&str> {
         found.extend(line.split("λ ").skip(1).filter_map(|rest| rest.split('.').next()));
         let parameters = line.split_once("fn ").and_then(|(_, rest)| rest.split_once('('));
         found.extend(parameters.and_then(|(_, rest)| Some(rest.split_once(": ")?.0)));
+        let imported = line.strip_prefix("use ").and_then(|rest| rest.strip_suffix("};")?.split_once("::{"));
+        if let Some((krate, names)) = imported {
+            let text = source(krate);
+            found.extend(names.split(", ").filter(|name| declares(&text, name)));
+        }
     }
     found
 }
@@ -312,7 +325,7 @@ fn every_edit_names_what_its_file_knows() {
                 _ => {
                     let known = needed(old);
                     let here = |name: &str| known.contains(name) || own.contains(name) || holds(&code, name);
-                    let missing = needed(text).into_iter().filter(|name| !here(name) && !EVERYWHERE.contains(name) && !is_goal(name, old));
+                    let missing = needed(text).into_iter().filter(|name| !here(name) && !EVERYWHERE.contains(name) && !is_goal(name, old, &edit));
                     wrong.extend(missing.map(|name| format!("{file} of {krate}: {name}")));
                 }
             }

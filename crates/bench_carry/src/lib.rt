@@ -12,6 +12,7 @@ ghost use Rattle.bench_limits.specs.Limits.{line_room, text_length};
 
 use bench_rules::After;
 use bench_state::Bench;
+use settings::Refusal;
 
 // One carried number.
 fn carry_one(
@@ -31,11 +32,11 @@ fn carry_one(
         Turned b l at out.old (carried b.settings (world_in b l) number) result l' out.new }
 {
     if number == 0 {
-        return bench_rules::refuse(b, settings::BAD_LINE, at, out);
+        return bench_rules::refuse(b, Refusal::BadLine, at, out);
     }
     let last = number as usize;
     if b.sent < last {
-        return bench_rules::refuse(b, settings::BAD_LINE, at, out);
+        return bench_rules::refuse(b, Refusal::BadLine, at, out);
     }
     let k = last - 1;
     if bench_sent::is_reply(numbers, k) {
@@ -45,6 +46,8 @@ fn carry_one(
 }
 
 // The numbers of a carry line, left to right.
+// stays: the new form is no plainer (`while place <= line.len()`: `bench_parse::number_at` gives a number and the place behind it, which differ in length).
+#[tactic(auto, using(crate::proofs::Laws::CarryLaws::carrying_first, crate::proofs::Laws::CarryLaws::carrying_next))]
 pub fn carry_all(
     b: Bench,
     line: &[u8],
@@ -65,8 +68,7 @@ pub fn carry_all(
     let mut place = first;
     while place <= line.len() {
         let k = bench_parse::number_at(line, place);
-        let bench = r.bench;
-        r = carry_one(bench, k.value, images, kept, numbers, bytes, r.used, out);
+        r = carry_one(r.bench, k.value, images, kept, numbers, bytes, r.used, out);
         place = k.end + 1;
     }
     r

@@ -5,8 +5,8 @@ use Rattle.settings.specs.declared.Settings.{Settings}
 use Rattle.message.specs.Messages.{is_silent}
 use Rattle.message.specs.declared.Message.{Message}
 use Rattle.brick.specs.Receive.{Beside}
-use Rattle.brick.specs.declared.Given.{Given}
-use Rattle.brick.specs.declared.Given.TheVariants.{Answered, Silent, Refused}
+use Rattle.brick.specs.Receive.{Given}
+use Rattle.brick.specs.Receive.{Answered, Silent, Refused}
 use Rattle.volume.specs.Rows.{row_size}
 use Rattle.register.specs.Runs.{message, replied_with}
 use Rattle.bench_state.specs.State.{up_of, world_of}

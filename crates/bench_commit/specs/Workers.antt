@@ -2,7 +2,7 @@
 use Rattle.std.specs.Prelude.{cond, List, [], ◌∷◌, ◌++◌, ℕ, ◌+◌, ◌*◌, ◌≤◌, ◌<◌, eqb, leb, length, take, ◌≡◌}
 use Rattle.settings.specs.Refusal.{bad_line}
 use Rattle.settings.specs.declared.Settings.{Settings}
-use Rattle.coord_apply.specs.declared.Answer.{Answer}
+use Rattle.coord_apply.specs.Answers.{Answer}
 use Rattle.register.specs.Driver.{driven, with_blocks}
 use Rattle.register.specs.Runs.{World, Event, broadcasts}
 use Rattle.bench_print.specs.Printing.{ended_text}

@@ -1,7 +1,7 @@
 -- What the program's own functions give. That `read` fills the chunk with the input's next bytes, and that `write` writes out the text that it is
 -- handed, no contract can say of the process's own streams. Nor can a function's contract name what a call inside it answered: `turn` takes
 -- `read`'s answer as a parameter, and of all turns, and of the program, it is said that there are answers with which they are such a chain.
-use Rattle.std.specs.Prelude.{◌≡◌, ◌↔◌, Bool, true, cond, IsTrue, MatchOption, List, [], ◌∷◌, ◌++◌, ℕ, zero, suc, ◌≤◌, eqb, ℤ, pos, negsuc, length, take}
+use Rattle.std.specs.Prelude.{◌≡◌, ◌↔◌, Bool, true, false, cond, IsTrue, MatchOption, List, [], ◌∷◌, ◌++◌, ℕ, zero, suc, ◌≤◌, ℤ, pos, negsuc, length, take}
 use Rattle.std.specs.IoError.{error_kind, raw_os_error}
 use Rattle.std.specs.declared.io.Error.{Error}
 use Rattle.std.specs.declared.io.ErrorKind.TheVariants.{Interrupted}
@@ -16,22 +16,26 @@ use Rattle.bench_rules.specs.Play.{waiting}
 use Rattle.bench_rules.specs.Turning.{Lent}
 use Rattle.bench_state.specs.declared.Bench.{Bench}
 use Rattle.bench_io.specs.declared.Pass.{Pass}
+use Rattle.bench_io.specs.declared.Answer as code
+use Rattle.bench_io.specs.declared.Answer.TheVariants as answer
+use Rattle.bench_io.specs.declared.Standing.{Standing}
+use Rattle.bench_io.specs.declared.Standing.TheVariants as standing
 
 -- How the program stands: it goes on; it is at the end of the input; reading failed, or writing did.
-abbrev pub goes_on : ℕ
-goes_on = 0
+abbrev pub goes_on : Standing
+goes_on = standing.GoesOn
 
-abbrev pub at_end : ℕ
-at_end = 1
+abbrev pub at_end : Standing
+at_end = standing.Ended
 
-abbrev pub cannot_read : ℕ
-cannot_read = 2
+abbrev pub cannot_read : Standing
+cannot_read = standing.CannotRead
 
-abbrev pub cannot_write : ℕ
-cannot_write = 3
+abbrev pub cannot_write : Standing
+cannot_write = standing.CannotWrite
 
 -- how it stands after `write` took a text, or did not
-unfoldable pub write_status : Bool → ℕ
+unfoldable pub write_status : Bool → Standing
 write_status written = cond written goes_on cannot_write
 
 -- the system's number for an error where a signal interrupted a call (EINTR)
@@ -49,7 +53,7 @@ TellsInterrupt error r = MatchOption (raw_os_error error) (IsTrue r ↔ (error_k
 
 -- How it stands after a call of `read`, by its answer: some bytes came; 0, the end of the input; -1, a call that a signal interrupted, which is
 -- made again, or one that failed.
-unfoldable pub read_status : ℤ → (interrupted : Bool) → ℕ
+unfoldable pub read_status : ℤ → (interrupted : Bool) → Standing
 read_status (pos zero) interrupted = at_end
 read_status (pos (suc k)) interrupted = goes_on
 read_status (negsuc k) interrupted = cond interrupted goes_on cannot_read
@@ -63,8 +67,29 @@ arrived (negsuc k) = 0
 abbrev pub failed_status : ℕ
 failed_status = 1
 
-unfoldable pub left_with : ℕ → ℕ
-left_with status = cond (eqb status at_end) 0 failed_status
+unfoldable pub left_with : Standing → ℕ
+left_with standing.GoesOn = failed_status
+left_with standing.Ended = 0
+left_with standing.CannotRead = failed_status
+left_with standing.CannotWrite = failed_status
+
+-- how it stands after the last line
+abbrev pub after_last : Standing → Standing
+after_last standing.GoesOn = at_end
+after_last standing.Ended = at_end
+after_last standing.CannotRead = cannot_read
+after_last standing.CannotWrite = cannot_write
+
+-- What a call of `read` answered, as a number: so many bytes, or -1; and whether a signal interrupted it, so that it is made again.
+abbrev pub got_of : code.Answer → ℤ
+got_of (answer.Came n) = pos n
+got_of answer.Interrupted = negsuc 0
+got_of answer.Failed = negsuc 0
+
+abbrev pub tells_again : code.Answer → Bool
+tells_again (answer.Came n) = false
+tells_again answer.Interrupted = true
+tells_again answer.Failed = false
 
 -- The held bytes were played if they are a line, and then the next line holds none yet.
 pub record HeldPlayed (ended : Bool) (held : ℕ) (line : List ℕ) (b : Bench) (l : Lent) (out : List ℕ) (r : Pass) (l' : Lent) (out' : List ℕ) : Type 0 where
@@ -126,7 +151,7 @@ abbrev pub most_turns : ℕ
 most_turns = 18446744073709551615
 
 -- All turns, from a bench without a set and no byte held, to the first after which the program does not go on, or to the last that it is given.
-pub record Ran (line : List ℕ) (l : Lent) (out : List ℕ) (status : ℕ) (l' : Lent) (out' : List ℕ) : Type 0 where
+pub record Ran (line : List ℕ) (l : Lent) (out : List ℕ) (status : Standing) (l' : Lent) (out' : List ℕ) : Type 0 where
   pub first : Bench
   pub no-set : (k : Lent) (events : List Event) → stage_of first k events ≡ waiting
   pub right : bench_refused first images_length kept_length numbers_length bytes_length text_length ≡ 0
@@ -143,7 +168,7 @@ pub record RunLeft (left : ℕ) : Type 0 where
   pub line : List ℕ
   pub l : Lent
   pub out : List ℕ
-  pub status : ℕ
+  pub status : Standing
   pub l' : Lent
   pub out' : List ℕ
   pub line-long : length line ≡ held_length

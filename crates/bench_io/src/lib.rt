@@ -2,10 +2,10 @@
 // writes out what the line prints. All that it does with a line is `bench_player`'s, and with a chunk `bench_lines`'s.
 #![tactic(auto)]
 
-ghost use Rattle.std.specs.Prelude.{◌≡◌, cond, ◌-◌, ◌<◌, ◌≤◌, eqb, length, take, pos};
+ghost use Rattle.std.specs.Prelude.{◌≡◌, ◌<◌, ◌≤◌, length, take, pos};
 ghost use Rattle.std.specs.Io.KnownBytes.{Consumes, IsAtEnd};
-ghost use Rattle.bench_io.specs.Counts.{Moved, IsPrefixLen, clamp_len};
-ghost use Rattle.bench_io.specs.Workers.{goes_on, at_end, write_status, read_status, arrived, left_with};
+ghost use Rattle.bench_io.specs.Counts.{Moved};
+ghost use Rattle.bench_io.specs.Workers.{after_last, write_status, got_of, tells_again, arrived, left_with};
 ghost use Rattle.bench_io.specs.Workers.{Interrupts, TellsInterrupt, HeldPlayed, ChunkPlayed, PlayedLast, TurnMade, Ran, RunLeft};
 ghost use Rattle.bench_limits.specs.Limits.{kept_length, images_length, numbers_length, bytes_length, text_length};
 ghost use Rattle.bench_rules.specs.Turning.{lent};
@@ -15,16 +15,16 @@ use bench_state::Bench;
 use std::io::{Error, ErrorKind, Read, Write};
 
 // How the program stands: it goes on; it is at the end of the input; reading failed, or writing did.
-const GOES_ON: u32 = 0;
-
-const ENDED: u32 = 1;
-
-const CANNOT_READ: u32 = 2;
-
-const CANNOT_WRITE: u32 = 3;
+#[derive(Clone, Copy, PartialEq, Eq)]
+enum Standing {
+    GoesOn,
+    Ended,
+    CannotRead,
+    CannotWrite,
+}
 
 // What `read` answers at the end of the input.
-const END_OF_INPUT: isize = 0;
+const END_OF_INPUT: usize = 0;
 
 // The number that the system gives an error where a signal interrupted the call.
 const EINTR: i32 = 4;
@@ -39,14 +39,15 @@ const FAILED: u32 = 1;
 struct Pass {
     bench: Bench,
     held: usize,
-    status: u32,
+    status: Standing,
 }
 
-// What a call of `read` answered: how many bytes it put at the chunk's start, or -1, and whether a signal interrupted it.
+// What a call of `read` answered: how many bytes it put at the chunk's start; or it failed, where a signal interrupted it or otherwise.
 #[derive(Clone, Copy)]
-struct Answer {
-    got: isize,
-    interrupted: bool,
+enum Answer {
+    Came(usize),
+    Interrupted,
+    Failed,
 }
 
 // Buffers of zeros; only their lengths are told, which lending them needs.
@@ -82,13 +83,15 @@ fn large_buffer() -> [u8; TEXT_LENGTH]
 }
 
 // How the program stands after a text was written, or was not.
-fn after_writing(written: bool) -> u32
+#[tactic(auto, unfolding(crate::specs::Workers::write_status))]
+fn after_writing(written: bool) -> Standing
     ensures { result ≡ write_status written }
 {
     if written {
-        return GOES_ON;
+        Standing::GoesOn
+    } else {
+        Standing::CannotWrite
     }
-    CANNOT_WRITE
 }
 
 // The first bytes of the line's buffer played, if they are a line, and what the line prints written out.
@@ -109,25 +112,24 @@ fn play<W: Write>(
         let l' = lent images.new kept.new numbers.new bytes.new in
         HeldPlayed ended held line.now b l out.old result l' out.new }
 {
-    if ended {} else {
+    if !ended {
         return Pass {
             bench: b,
             held,
-            status: GOES_ON,
+            status: Standing::GoesOn,
         };
     }
     let o = bench_player::play_line(b, &line[..held], images, kept, numbers, bytes, out);
-    let used = o.used;
-    let written = output.write_all(&out[..used]).is_ok();
-    let bench = o.bench;
+    let written = output.write_all(&out[..o.used]).is_ok();
     Pass {
-        bench,
+        bench: o.bench,
         held: 0,
         status: after_writing(written),
     }
 }
 
 // The lines that end in a chunk, one after the other.
+// stays: the new form is no plainer (`at = c.next`: each line is cut where the one before ended, and the bench goes through all of them).
 fn play_chunk<W: Write>(
     b: Bench,
     held: usize,
@@ -148,16 +150,15 @@ fn play_chunk<W: Write>(
     let mut p = Pass {
         bench: b,
         held,
-        status: GOES_ON,
+        status: Standing::GoesOn,
     };
     let mut at: usize = 0;
     while at < chunk.len() {
         let c = bench_lines::cut_line(chunk, at, line, p.held);
-        let so_far = p.bench;
         p = play(
-            so_far, c.whole, c.held, line, images, kept, numbers, bytes, out, output,
+            p.bench, c.whole, c.held, line, images, kept, numbers, bytes, out, output,
         );
-        if p.status != GOES_ON {
+        if p.status != Standing::GoesOn {
             return p;
         }
         at = c.next;
@@ -194,32 +195,29 @@ fn play_last<W: Write>(
         out,
         output,
     );
-    let bench = p.bench;
     Pass {
-        bench,
+        bench: p.bench,
         held: 0,
         status: at_the_end(p.status),
     }
 }
 
 // How the program stands after the last line.
-fn at_the_end(status: u32) -> u32
-    ensures { result ≡ cond (eqb status goes_on) at_end status }
+fn at_the_end(status: Standing) -> Standing
+    ensures { result ≡ after_last status }
 {
-    if status == GOES_ON {
-        return ENDED;
+    match status {
+        Standing::GoesOn => Standing::Ended,
+        _ => status,
     }
-    status
 }
 
 // Whether the error's number says that a signal interrupted the call.
+#[tactic(auto, using(crate::proofs::Laws::ReadLaws::interrupts, crate::proofs::Laws::ReadLaws::interrupts_not))]
 fn is_interrupt(error: i32) -> bool
     ensures { Interrupts error result }
 {
-    if error == EINTR {
-        return true;
-    }
-    false
+    error == EINTR
 }
 
 // Whether a signal interrupted the call that failed so. An error that is not the system's has no number, but a kind.
@@ -234,55 +232,27 @@ fn was_interrupted(error: &Error) -> bool
 
 // One call of `read`. Where it is known which bytes the reader has left, those that came are the next of them, and it answers 0 at their end.
 fn read_once<R: Read>(input: &mut R, chunk: &mut [u8]) -> Answer
-    ensures moved { Moved (length chunk.new) result.got }
-    ensures bytes { Consumes (R.remaining input.old) (R.remaining input.new) (take (arrived result.got) chunk.new) }
-    ensures end { result.got ≡ pos 0 → 0 < length chunk.new → IsAtEnd (R.remaining input.new) }
+    ensures moved { Moved (length chunk.new) (got_of result) }
+    ensures bytes { Consumes (R.remaining input.old) (R.remaining input.new) (take (arrived (got_of result)) chunk.new) }
+    ensures end { got_of result ≡ pos 0 → 0 < length chunk.new → IsAtEnd (R.remaining input.new) }
 {
     match input.read(chunk) {
-        Ok(n) => Answer {
-            got: n as isize,
-            interrupted: false,
-        },
-        Err(error) => Answer {
-            got: -1,
-            interrupted: was_interrupted(&error),
-        },
+        Ok(n) => Answer::Came(n),
+        Err(error) => {
+            if was_interrupted(&error) {
+                Answer::Interrupted
+            } else {
+                Answer::Failed
+            }
+        }
     }
 }
 
-// How many bytes came with that answer, at most all of the chunk's.
-fn count(got: isize, chunk: &[u8]) -> usize
-    ensures in_bounds { IsPrefixLen result chunk.now }
-    ensures value { result ≡ clamp_len got (length chunk.now) }
-{
-    if got <= 0 {
-        return 0;
-    }
-    let n = got as usize;
-    if n < chunk.len() { n } else { chunk.len() }
-}
-
-// How the program stands after a call of `read` that answered so. One that a signal interrupts before it moves a byte is made again.
-fn after_reading(got: isize, interrupted: bool) -> u32
-    ensures { result ≡ read_status got interrupted }
-{
-    if 0 < got {
-        return GOES_ON;
-    }
-    if got == END_OF_INPUT {
-        return ENDED;
-    }
-    if interrupted {
-        return GOES_ON;
-    }
-    CANNOT_READ
-}
-
-// What a call of `read` answered and left in the chunk, played: the lines that end in it, or at the end of the input the last one.
+// What a call of `read` answered and left in the chunk, played: the lines that end in it, or at the end of the input the last one. A call that a
+// signal interrupts before it moves a byte is made again.
 fn turn<W: Write>(
     p: Pass,
-    got: isize,
-    interrupted: bool,
+    answer: Answer,
     chunk: &[u8],
     line: &mut [u8],
     images: &mut [u8],
@@ -295,48 +265,36 @@ fn turn<W: Write>(
     requires { p.held ≤ length line.old }
     ensures { let l = lent images.old kept.old numbers.old bytes.old in
         let l' = lent images.new kept.new numbers.new bytes.new in
-        TurnMade got interrupted chunk.now line.old p l out.old result line.new l' out.new }
+        TurnMade (got_of answer) (tells_again answer) chunk.now line.old p l out.old result line.new l' out.new }
 {
-    let status = after_reading(got, interrupted);
-    let n = count(got, chunk);
-    let b = p.bench;
-    let held = p.held;
-    if status == ENDED {
-        return play_last(b, held, line, images, kept, numbers, bytes, out, output);
+    match answer {
+        Answer::Came(END_OF_INPUT) => play_last(
+            p.bench, p.held, line, images, kept, numbers, bytes, out, output,
+        ),
+        Answer::Came(n) => play_chunk(
+            p.bench,
+            p.held,
+            &chunk[..n.min(chunk.len())],
+            line,
+            images,
+            kept,
+            numbers,
+            bytes,
+            out,
+            output,
+        ),
+        Answer::Interrupted => Pass {
+            status: Standing::GoesOn,
+            ..p
+        },
+        Answer::Failed => Pass {
+            status: Standing::CannotRead,
+            ..p
+        },
     }
-    if status == CANNOT_READ {
-        return Pass {
-            bench: b,
-            held,
-            status,
-        };
-    }
-    play_chunk(
-        b,
-        held,
-        &chunk[..n],
-        line,
-        images,
-        kept,
-        numbers,
-        bytes,
-        out,
-        output,
-    )
 }
 
-// How many turns may follow.
-fn turns_left(turns: u64, status: u32) -> u64
-    requires { 1 ≤ turns }
-    ensures { result ≡ cond (eqb status goes_on) (turns - 1) 0 }
-{
-    if status == GOES_ON {
-        return turns - 1;
-    }
-    0
-}
-
-// All of the input. A proved loop has to end, so it counts down from a number that no run uses up.
+// All of the input. A proved loop has to end, so it has a number of turns that no run uses up.
 fn play_all<R: Read, W: Write>(
     chunk: &mut [u8],
     line: &mut [u8],
@@ -347,50 +305,39 @@ fn play_all<R: Read, W: Write>(
     out: &mut [u8],
     input: &mut R,
     output: &mut W,
-) -> u32
+) -> Standing
     ensures { let l = lent images.old kept.old numbers.old bytes.old in
         let l' = lent images.new kept.new numbers.new bytes.new in
         Ran line.old l out.old result l' out.new }
 {
-    let b = bench_player::no_set();
     let mut p = Pass {
-        bench: b,
+        bench: bench_player::no_set(),
         held: 0,
-        status: GOES_ON,
+        status: Standing::GoesOn,
     };
-    let mut turns = u64::MAX;
-    while turns > 0 {
+    for _turn in 0..u64::MAX {
         let answer = read_once(input, chunk);
         p = turn(
-            p,
-            answer.got,
-            answer.interrupted,
-            chunk,
-            line,
-            images,
-            kept,
-            numbers,
-            bytes,
-            out,
-            output,
+            p, answer, chunk, line, images, kept, numbers, bytes, out, output,
         );
-        turns = turns_left(turns, p.status);
+        if p.status != Standing::GoesOn {
+            return p.status;
+        }
     }
     p.status
 }
 
 // What the program leaves with; of what failed it says one line.
-fn leave<E: Write>(status: u32, errors: &mut E) -> u32
+#[tactic(auto, unfolding(crate::specs::Workers::left_with))]
+fn leave<E: Write>(status: Standing, errors: &mut E) -> u32
     ensures { result ≡ left_with status }
 {
-    if status == ENDED {
-        return DONE;
-    }
-    if status == CANNOT_WRITE {
-        let _ = errors.write_all(b"bench: cannot write standard output\n");
-        return FAILED;
-    }
-    let _ = errors.write_all(b"bench: cannot read standard input\n");
+    let text: &[u8] = match status {
+        Standing::Ended => return DONE,
+        Standing::CannotWrite => b"bench: cannot write standard output\n",
+        _ => b"bench: cannot read standard input\n",
+    };
+    let _ = errors.write_all(text);
     FAILED
 }
 

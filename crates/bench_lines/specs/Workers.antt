@@ -1,7 +1,14 @@
 -- What the inner workers of this crate give.
-use Rattle.std.specs.Prelude.{◌≡◌, cond, List, ℕ, ◌+◌, ltb, length, set}
+use Rattle.std.specs.Prelude.{◌≡◌, true, false, List, ℕ, ◌+◌, ◌<◌, length, take, Option, Some, None}
+use Rattle.byte_lists.specs.Lists.{put}
+use Rattle.bench_lines.specs.Cutting.{before_newline, has_newline, fitting}
 
--- A byte more of a line, where there is room for it: how many bytes are held, and the line's buffer.
-pub record Kept (line : List ℕ) (held byte : ℕ) (r : ℕ) (line' : List ℕ) : Type 0 where
-  pub held-is : r ≡ cond (ltb held (length line)) (held + 1) held
-  pub line-is : line' ≡ set line held byte
+-- Bytes more of a line, as many as there is room for: how many bytes are held, and the line's buffer.
+pub record Kept (line : List ℕ) (held : ℕ) (bytes : List ℕ) (r : ℕ) (line' : List ℕ) : Type 0 where
+  pub held-is : r ≡ held + length (fitting (length line) held bytes)
+  pub line-is : line' ≡ put held (fitting (length line) held bytes) line
+
+-- the place of the first newline, if there is one
+abbrev pub NewlineIn : List ℕ → Option ℕ → Type 0
+NewlineIn bytes None = (before_newline bytes ≡ bytes) × (has_newline bytes ≡ false)
+NewlineIn bytes (Some k) = (before_newline bytes ≡ take k bytes) × (has_newline bytes ≡ true) × (k < length bytes)

@@ -4,15 +4,16 @@
 
 ghost use Rattle.std.specs.Prelude.{◌≡◌, length, drop};
 ghost use Rattle.bench_lines.specs.Cutting.{CutOff};
-ghost use Rattle.bench_lines.specs.Workers.{Kept};
+ghost use Rattle.bench_lines.specs.Workers.{Kept, NewlineIn};
 ghost use Rattle.bench_parse.specs.Lines.{held_length};
 
 // Room for as many bytes of a line as are enough to tell that it is too long.
 const LINE_LENGTH: usize = bench_parse::HELD_LENGTH;
 
-const NEWLINE: u8 = 10;
+const NEWLINE: u8 = b'\n';
 
 // Where the cutting stands: the next place in the chunk, how many bytes of the line are held, and whether a newline ended it.
+// stays: no flag with a value: the place and the held bytes are told on both ways, and `bench_io::play` takes all three.
 #[derive(Clone, Copy)]
 pub struct Cut {
     pub next: usize,
@@ -27,15 +28,23 @@ pub fn new_line() -> [u8; LINE_LENGTH]
     [0; LINE_LENGTH]
 }
 
-// A byte more of a line, where there is room for it.
-fn keep_byte(line: &mut [u8], held: usize, byte: u8) -> usize
-    ensures { Kept line.old held byte result line.new }
+// Bytes moved into a line behind those that it holds, as many as it has room for: how many it holds then.
+fn keep_bytes(line: &mut [u8], held: usize, bytes: &[u8]) -> usize
+    ensures { Kept line.old held bytes.now result line.new }
 {
-    if line.len() <= held {
+    let count = line.len().saturating_sub(held).min(bytes.len());
+    if count == 0 {
         return held;
     }
-    line[held] = byte;
-    held + 1
+    line[held..held + count].copy_from_slice(&bytes[..count]);
+    held + count
+}
+
+// The place of the first newline.
+fn newline_in(bytes: &[u8]) -> Option<usize>
+    ensures { NewlineIn bytes.now result }
+{
+    bytes.iter().position(|&x| x == NEWLINE)
 }
 
 // The bytes of a chunk from a place on, up to the next newline or the chunk's end, moved into the line behind those that it holds, as many as
@@ -43,23 +52,24 @@ fn keep_byte(line: &mut [u8], held: usize, byte: u8) -> usize
 pub fn cut_line(chunk: &[u8], from: usize, line: &mut [u8], held: usize) -> Cut
     ensures { CutOff (drop from chunk.now) from line.old held result line.new }
 {
-    let mut at = from;
-    let mut kept = held;
-    while at < chunk.len() {
-        let byte = chunk[at];
-        if byte == NEWLINE {
-            return Cut {
-                next: at + 1,
-                held: kept,
-                whole: true,
-            };
-        }
-        kept = keep_byte(line, kept, byte);
-        at += 1;
+    if chunk.len() < from {
+        return Cut {
+            next: from,
+            held,
+            whole: false,
+        };
     }
-    Cut {
-        next: at,
-        held: kept,
-        whole: false,
+    let rest = &chunk[from..];
+    match newline_in(rest) {
+        Some(end) => Cut {
+            next: from + end + 1,
+            held: keep_bytes(line, held, &rest[..end]),
+            whole: true,
+        },
+        None => Cut {
+            next: chunk.len(),
+            held: keep_bytes(line, held, rest),
+            whole: false,
+        },
     }
 }

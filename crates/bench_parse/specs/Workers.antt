@@ -1,17 +1,12 @@
 -- What the code's answer stands for, and what a caller has of it.
-use Rattle.std.specs.Prelude.{◌≡◌, true, cond, List, [], ◌∷◌, ℕ, ◌+◌, ◌≤◌, ◌<◌, leb, length, drop, Bool, false, ◌&&◌, suc, eqb, get_or}
-use Rattle.bench_parse.specs.Lines.{every, longest, words, number_word, numbers_of, hex_word, Line, set_line, write_line, read_line, carry_line, crash_line}
-use Rattle.bench_parse.specs.Lines.{down_line, up_line, no_line}
+use Rattle.std.specs.Prelude.{◌≡◌, true, false, cond, List, [], ◌∷◌, ℕ, suc, ◌+◌, ◌≤◌, ◌<◌, leb, eqb, length, drop, get_or}
+use Rattle.std.specs.Prelude.{Bool, ◌&&◌, Option, Some, None}
+use Rattle.bench_parse.specs.Lines.{every, longest, space, words, number_word, value_of, numbers_of, hex_word, are_numbers, number_in}
+use Rattle.bench_parse.specs.Lines.{is_digit, is_lower, is_upper}
+use Rattle.bench_parse.specs.Lines.{Line, set_line, write_line, read_line, carry_line, crash_line, down_line, up_line, no_line}
 use Rattle.bench_parse.specs.declared.Line as code
 use Rattle.bench_parse.specs.declared.Line.TheVariants.{Set, Write, Read, Carry, Crash, Down, Up, Unread}
 use Rattle.bench_parse.specs.declared.Number.{Number}
-use Rattle.bench_parse.specs.Lines.{space, are_numbers, number_in, value_of}
-use Rattle.bench_parse.specs.Lines.{set_of, write_of, read_of, carry_of, one_of, set_text, write_text}
-use Rattle.bench_parse.specs.Lines.{read_text, carry_text, crash_text, down_text, up_text}
-use Rattle.byte_lists.specs.Lists.{same}
-use Rattle.bench_parse.specs.declared.Line as code
-use Rattle.bench_parse.specs.declared.Numeral.{Numeral}
-use Rattle.bench_parse.specs.declared.Piece.{Piece}
 
 -- the words of a line from a place on, none behind its end
 unfoldable pub words_from : List ℕ → ℕ → List (List ℕ)
@@ -68,10 +63,15 @@ pub record CarryRest (l : List ℕ) (at : ℕ) : Type 0 where
   pub high : at ≤ length l + 1
   pub begins : at ≤ length l → CarryFrom l at
 
+-- what the line is: one that does not read, where nothing was read
+abbrev pub read_or_not : Option code.Line → code.Line
+read_or_not None = Unread
+read_or_not (Some r) = r
+
 -- an answer, with what the line says
-pub record ReadAs (r : code.Line) (l : List ℕ) (said : Line) : Type 0 where
-  pub meaning : line_of r l ≡ said
-  pub sound : LineSound r l
+pub record ReadAs (r : Option code.Line) (l : List ℕ) (said : Line) : Type 0 where
+  pub meaning : line_of (read_or_not r) l ≡ said
+  pub sound : LineSound (read_or_not r) l
 
 -- the bytes before the next space
 unfoldable pub word_length : List ℕ → ℕ
@@ -88,27 +88,26 @@ unfoldable pub others : List (List ℕ) → List (List ℕ)
 others [] = []
 others (w ∷ ws) = ws
 
--- what reading a number off the front of some words gives: whether there is one, its value, and the words that follow
-pub record NumberTaken (ws rest : List (List ℕ)) (good : Bool) (value : ℕ) : Type 0 where
-  pub tests : good ≡ starts_number ws
-  pub rest-is : good ≡ true → rest ≡ others ws
-  pub value-is : good ≡ true → value ≡ number_in ws 0
-
--- a word read as a number
-pub record NumeralOf (w : List ℕ) (r : Numeral) : Type 0 where
-  pub tests : r.good ≡ number_word w
-  pub value-is : r.good ≡ true → r.value ≡ value_of w
+-- a number read off the front of the words from a place on: its value, and where the words that follow begin
+pub record NumberTaken (l : List ℕ) (at : ℕ) (r : Number) : Type 0 where
+  pub starts : starts_number (words_from l at) ≡ true
+  pub rest-is : words_from l (r.end + 1) ≡ others (words_from l at)
+  pub value-is : r.value ≡ number_in (words_from l at) 0
+  pub low : at < r.end
+  pub high : r.end ≤ length l
 
 -- a number looked for at a place of a line
-pub record NumberFrom (l : List ℕ) (at : ℕ) (r : Piece) : Type 0 where
-  pub taken : NumberTaken (words_from l at) (words_from l r.next) r.good r.value
-  pub low : r.good ≡ true → at + 1 < r.next
-  pub high : r.next ≤ length l + 1
+abbrev pub NumberFrom : List ℕ → ℕ → Option Number → Type 0
+NumberFrom l at None = starts_number (words_from l at) ≡ false
+NumberFrom l at (Some r) = NumberTaken l at r
+
+-- a word read as a number
+unfoldable pub number_read : List ℕ → Option ℕ
+number_read w = cond (number_word w) (Some (value_of w)) None
 
 -- the only word left, read as a number
-pub record AloneOf (ws : List (List ℕ)) (r : Numeral) : Type 0 where
-  pub tests : r.good ≡ are_numbers 1 ws
-  pub value-is : r.good ≡ true → r.value ≡ number_in ws 0
+unfoldable pub lone_number : List (List ℕ) → Option ℕ
+lone_number ws = cond (are_numbers 1 ws) (Some (number_in ws 0)) None
 
 -- what every reader is given: the place of a word, or the one behind the end
 pub record Place (l : List ℕ) (at : ℕ) : Type 0 where
@@ -126,46 +125,7 @@ pub record HexesFrom (l : List ℕ) (at : ℕ) (r : Bool) : Type 0 where
   pub digits : r ≡ true → hex_word (drop at l) ≡ true
   pub only : r ≡ true → words_from l at ≡ drop at l ∷ []
 
--- a command by its number, 0 for none
-abbrev pub no_command : ℕ
-no_command = 0
-
-abbrev pub set_command : ℕ
-set_command = 1
-
-abbrev pub write_command : ℕ
-write_command = 2
-
-abbrev pub read_command : ℕ
-read_command = 3
-
-abbrev pub carry_command : ℕ
-carry_command = 4
-
-abbrev pub crash_command : ℕ
-crash_command = 5
-
-abbrev pub down_command : ℕ
-down_command = 6
-
-abbrev pub up_command : ℕ
-up_command = 7
-
--- the first word as a number: which command it is, if one
-unfoldable pub command_number : List ℕ → ℕ
-command_number w =
-    cond (same w set_text) set_command
-    (cond (same w write_text) write_command
-    (cond (same w read_text) read_command
-    (cond (same w carry_text) carry_command
-    (cond (same w crash_text) crash_command (cond (same w down_text) down_command (cond (same w up_text) up_command no_command))))))
-
--- what such a line says
-unfoldable pub by_number : ℕ → List (List ℕ) → Line
-by_number k ws =
-    cond (eqb k set_command) (set_of ws)
-    (cond (eqb k write_command) (write_of ws)
-    (cond (eqb k read_command) (read_of ws)
-    (cond (eqb k carry_command) (carry_of ws)
-    (cond (eqb k crash_command) (one_of crash_line ws) (cond (eqb k down_command) (one_of down_line ws)
-    (cond (eqb k up_command) (one_of up_line ws) no_line))))))
+-- digits and letters, opened
+unfoldable pub digits : Unit {0}
+unfolding is_digit is_lower is_upper
+digits = tt

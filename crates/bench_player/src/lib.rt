@@ -11,6 +11,7 @@ ghost use Rattle.bench_rules.specs.Turning.{Lent, lent, world_in};
 ghost use Rattle.bench_rules.specs.Workers.{BenchReady, Lined};
 ghost use Rattle.bench_state.specs.State.{bench_range};
 ghost use Rattle.register.specs.Runs.{Event};
+ghost use Rattle.settings.specs.Refusal.{refusal_in};
 ghost use Rattle.bench_limits.specs.Limits.{last_message, kept_length, images_length, numbers_length, bytes_length, text_length};
 
 use bench_carry::carry_all;
@@ -22,7 +23,7 @@ use bench_parse::Line;
 use bench_rules::After;
 use bench_state::Bench;
 use bench_switch::switch_at;
-use settings::Settings;
+use settings::{PASSED, Refusal, Settings};
 
 // A line while no set is accepted: what its bytes read as is given.
 fn play_first(
@@ -48,20 +49,15 @@ fn play_first(
                 capacity: capacity as usize,
                 stripes: BENCH_STRIPES,
             };
-            let bad = bench_state::bench_refusal(s);
-            if bad != settings::PASSED {
-                return bench_rules::refuse(b, settings::BAD_SETTING, 0, out);
+            match bench_state::check_bench(s) {
+                Ok(()) => {
+                    let bench = bench_state::set_up(s, images, kept);
+                    After { bench, used: 0 }
+                }
+                Err(refusal) => bench_rules::refuse(b, refusal, 0, out),
             }
-            let bench = bench_state::set_up(s, images, kept);
-            After { bench, used: 0 }
         }
-        Line::Write(_, _, _) => bench_rules::refuse(b, settings::BAD_LINE, 0, out),
-        Line::Read(_, _, _) => bench_rules::refuse(b, settings::BAD_LINE, 0, out),
-        Line::Carry(_) => bench_rules::refuse(b, settings::BAD_LINE, 0, out),
-        Line::Crash(_) => bench_rules::refuse(b, settings::BAD_LINE, 0, out),
-        Line::Down(_) => bench_rules::refuse(b, settings::BAD_LINE, 0, out),
-        Line::Up(_) => bench_rules::refuse(b, settings::BAD_LINE, 0, out),
-        Line::Unread => bench_rules::refuse(b, settings::BAD_LINE, 0, out),
+        _ => bench_rules::refuse(b, Refusal::BadLine, 0, out),
     }
 }
 
@@ -84,7 +80,7 @@ fn play_next(
         Lined b l out.old (plays b.settings (world_in b l) (reads line.now)) result l' out.new }
 {
     match l {
-        Line::Set(_, _, _, _) => bench_rules::refuse(b, settings::BAD_LINE, 0, out),
+        Line::Set(_, _, _, _) => bench_rules::refuse(b, Refusal::BadLine, 0, out),
         Line::Write(c, clock, hex) => {
             bench_start::write_at(b, c, clock, line, hex, kept, numbers, bytes, out)
         }
@@ -95,11 +91,12 @@ fn play_next(
         Line::Crash(c) => bench_start::crash_at(b, c, kept, numbers, bytes, out),
         Line::Down(brick) => switch_at(b, brick, DOWN, out),
         Line::Up(brick) => switch_at(b, brick, UP, out),
-        Line::Unread => bench_rules::refuse(b, settings::BAD_LINE, 0, out),
+        Line::Unread => bench_rules::refuse(b, Refusal::BadLine, 0, out),
     }
 }
 
 // The bench after a whole line: a refusal's number, 0 for none, the record, and how many bytes are printed.
+// stays: the refusal's number and the record beside it are what `Lining.Called` says of a call, a refused one too, which the tests hand back in.
 #[derive(Clone, Copy)]
 pub struct LinePlayed {
     pub refusal: u32,
@@ -108,59 +105,50 @@ pub struct LinePlayed {
 }
 
 // Whether settings are those of no set, or within the bench's limits.
+#[tactic(auto, using(crate::proofs::Laws::PlayerRefusalLaws::right_none, crate::proofs::Laws::PlayerRefusalLaws::right_some))]
 fn settings_right(s: Settings) -> bool
     ensures { result ≡ (eqb s.n 0 || bench_range s) }
 {
     if s.n == 0 {
         return true;
     }
-    bench_state::bench_refusal(s) == settings::PASSED
+    bench_state::check_bench(s).is_ok()
 }
 
 // Whether the lent buffers have their lengths.
+#[tactic(auto, unfolding(crate::specs::Lining::lent_lengths_right))]
 fn lengths_right(images: usize, kept: usize, numbers: usize, bytes: usize, out: usize) -> bool
     ensures { result ≡ lent_lengths_right images kept numbers bytes out }
 {
-    if images != IMAGES_LENGTH {
-        return false;
-    }
-    if kept != KEPT_LENGTH {
-        return false;
-    }
-    if numbers != NUMBERS_LENGTH {
-        return false;
-    }
-    if bytes != BYTES_LENGTH {
-        return false;
-    }
-    if out != TEXT_LENGTH {
-        return false;
-    }
-    true
+    images == IMAGES_LENGTH
+        && kept == KEPT_LENGTH
+        && numbers == NUMBERS_LENGTH
+        && bytes == BYTES_LENGTH
+        && out == TEXT_LENGTH
 }
 
-// The refusal of a record and buffers that are no bench's, 0 for none.
-fn bench_refused(
+// Why a record and buffers are no bench's.
+#[tactic(auto, using(crate::proofs::Laws::PlayerRefusalLaws::refused_settings, crate::proofs::Laws::PlayerRefusalLaws::refused_lengths, crate::proofs::Laws::PlayerRefusalLaws::refused_many, crate::proofs::Laws::PlayerRefusalLaws::refused_not))]
+fn check_call(
     b: Bench,
     images: usize,
     kept: usize,
     numbers: usize,
     bytes: usize,
     out: usize,
-) -> u32
-    ensures { result ≡ bench_refused b images kept numbers bytes out }
+) -> Result<(), Refusal>
+    ensures { refusal_in result ≡ bench_refused b images kept numbers bytes out }
 {
-    let s = b.settings;
-    if settings_right(s) {} else {
-        return settings::BAD_SETTING;
+    if !settings_right(b.settings) {
+        return Err(Refusal::BadSetting);
     }
-    if lengths_right(images, kept, numbers, bytes, out) {} else {
-        return settings::BAD_LENGTH;
+    if !lengths_right(images, kept, numbers, bytes, out) {
+        return Err(Refusal::BadLength);
     }
     if LAST_MESSAGE < b.sent {
-        return settings::BAD_RECORD;
+        return Err(Refusal::BadRecord);
     }
-    settings::PASSED
+    Ok(())
 }
 
 // The bench before its first line: no set.
@@ -193,37 +181,33 @@ pub fn play_line(
         let l' = lent images.new kept.new numbers.new bytes.new in
         Called b l line.now out.old result l' out.new }
 {
-    let bad = bench_refused(
+    if let Err(refusal) = check_call(
         b,
         images.len(),
         kept.len(),
         numbers.len(),
         bytes.len(),
         out.len(),
-    );
-    if bad != settings::PASSED {
+    ) {
         return LinePlayed {
-            refusal: bad,
+            refusal: refusal.number(),
             bench: b,
             used: 0,
         };
     }
     let l = bench_parse::read_line(line);
-    let s = b.settings;
-    if s.n == 0 {
+    if b.settings.n == 0 {
         let first = play_first(b, l, line, images, kept, out);
-        let begun = first.bench;
         return LinePlayed {
-            refusal: settings::PASSED,
-            bench: begun,
+            refusal: PASSED,
+            bench: first.bench,
             used: first.used,
         };
     }
     let r = play_next(b, l, line, images, kept, numbers, bytes, out);
-    let bench = r.bench;
     LinePlayed {
-        refusal: settings::PASSED,
-        bench,
+        refusal: PASSED,
+        bench: r.bench,
         used: r.used,
     }
 }

@@ -12,6 +12,7 @@ use coord_apply::{ABORTED, CUT, Notice, OK, STRIPE};
 use coord_record::READING;
 
 // One byte.
+#[tactic(auto, using(crate::proofs::Laws::WrittenLaws::placed_byte))]
 fn put_byte(b: u8, at: usize, out: &mut [u8]) -> usize
     requires { at < length out.old }
     ensures { PrintedAt at (b ∷ []) out.old out.new result }
@@ -25,12 +26,9 @@ fn put_word(word: &[u8], at: usize, out: &mut [u8]) -> usize
     requires { at + length word.now ≤ length out.old }
     ensures { PrintedAt at word.now out.old out.new result }
 {
-    let mut i: usize = 0;
-    while i < word.len() {
-        out[at + i] = word[i];
-        i += 1;
-    }
-    at + i
+    let end = at + word.len();
+    out[at..end].copy_from_slice(word);
+    end
 }
 
 // A digit of a number.
@@ -38,7 +36,7 @@ fn digit_of(k: u64) -> u8
     requires { k < 10 }
     ensures { result ≡ digit k }
 {
-    (48 + k) as u8
+    b'0' + k as u8
 }
 
 // A number in decimal.
@@ -54,28 +52,27 @@ fn put_number(k: u64, at: usize, out: &mut [u8]) -> usize
 }
 
 // A digit of a byte.
+#[tactic(auto, unfolding(crate::specs::Printing::hex_digit))]
 fn hex_digit(k: u8) -> u8
     requires { k < 16 }
     ensures { result ≡ hex_digit k }
 {
-    if k < 10 {
-        return 48 + k;
+    match k {
+        0..=9 => b'0' + k,
+        _ => b'a' + (k - 10),
     }
-    87 + k
 }
 
 // Bytes in hexadecimal.
+#[tactic(auto, using(crate::proofs::Laws::TextLaws::hexing_all))]
 fn put_hex(bytes: &[u8], at: usize, out: &mut [u8]) -> usize
     requires { at + length (hex_text bytes.now) ≤ length out.old }
     ensures { PrintedAt at (hex_text bytes.now) out.old out.new result }
 {
-    let mut i: usize = 0;
     let mut to = at;
-    while i < bytes.len() {
-        let b = bytes[i];
+    for &b in bytes {
         to = put_byte(hex_digit(b / 16), to, out);
         to = put_byte(hex_digit(b % 16), to, out);
-        i += 1;
     }
     to
 }
@@ -108,13 +105,14 @@ fn put_kind(kind: u8, at: usize, out: &mut [u8]) -> usize
     ensures printed_at { PrintedAt at (kind_word kind ++ space ∷ []) out.old out.new result }
     ensures upper_bound { result ≤ at + kind_room }
 {
-    if kind == READING {
-        return put_word(b"read ", at, out);
+    match kind {
+        READING => put_word(b"read ", at, out),
+        _ => put_word(b"write ", at, out),
     }
-    put_word(b"write ", at, out)
 }
 
 // A letter and a space.
+// stays: no twin of `put_spaced`: a byte as it is, where that has the digits of a number.
 fn put_letter(letter: u8, at: usize, out: &mut [u8]) -> usize
     requires { at + letter_room ≤ length out.old }
     ensures printed_at { PrintedAt at (letter ∷ space ∷ []) out.old out.new result }
@@ -130,17 +128,15 @@ fn put_end(what: u8, stripe: &[u8], at: usize, out: &mut [u8]) -> usize
     ensures printed_at { PrintedAt at (end_word what stripe.now ++ newline ∷ []) out.old out.new result }
     ensures upper_bound { result ≤ at + end_room }
 {
-    if what == OK {
-        return put_word(b"ok\n", at, out);
+    match what {
+        OK => put_word(b"ok\n", at, out),
+        STRIPE => {
+            let to = put_hex(stripe, at, out);
+            put_byte(b'\n', to, out)
+        }
+        ABORTED => put_word(b"abort\n", at, out),
+        _ => put_word(b"cut\n", at, out),
     }
-    if what == STRIPE {
-        let to = put_hex(stripe, at, out);
-        return put_byte(b'\n', to, out);
-    }
-    if what == ABORTED {
-        return put_word(b"abort\n", at, out);
-    }
-    put_word(b"cut\n", at, out)
 }
 
 // The line of an operation that ended.
@@ -172,12 +168,17 @@ pub fn put_ended(c: usize, seen: Notice, stripe: &[u8], at: usize, out: &mut [u8
     ensures out_after { out.new ≡ printed_into at (ended_text c seen stripe.now) out.old }
     ensures upper_bound { result ≤ at + line_room }
 {
-    let what = seen.what;
-    if what < OK {
-        return at;
+    match seen.what {
+        OK..=CUT => put_line(
+            c,
+            seen.kind,
+            seen.time,
+            seen.letter,
+            seen.what,
+            stripe,
+            at,
+            out,
+        ),
+        _ => at,
     }
-    if CUT < what {
-        return at;
-    }
-    put_line(c, seen.kind, seen.time, seen.letter, what, stripe, at, out)
 }

@@ -4,8 +4,8 @@ use Rattle.settings.specs.Refusal.{bad_setting, bad_number, bad_line}
 use Rattle.settings.specs.declared.Settings.{Settings}
 use Rattle.message.specs.declared.Message.{Message}
 use Rattle.volume.specs.Rows.{row_outcome}
-use Rattle.brick.specs.declared.Given.{Given}
-use Rattle.brick.specs.declared.Given.TheVariants.{Answered, Silent, Refused}
+use Rattle.brick.specs.Receive.{Given}
+use Rattle.brick.specs.Receive.{Answered, Silent, Refused}
 use Rattle.coord_apply.specs.Answers.{Step, refused, went}
 use Rattle.coordinator.specs.Routines.{take_step, crash_step, write_step, read_step}
 use Rattle.register.specs.Runs.{Item, message, reply, World, untouched, Event, start_write, start_read, arrives, crashes, goes_down, comes_up, fresh_set, step}

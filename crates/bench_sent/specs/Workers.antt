@@ -54,6 +54,13 @@ pub record Sends (k n size : ℕ) (msg : Message) (blocks stripe coded numbers b
   pub items : (s : Settings) → s.size ≡ size
       → items_of size numbers' bytes' (k + n) ≡ items_of size numbers bytes k ++ to_all s (with_blocks size msg blocks stripe coded) n
 
+-- the block and the old block that go to brick j, as the runs' driver sends them
+pub record Picked (j size : ℕ) (msg : Message) (blocks stripe coded block old : List ℕ) : Type 0 where
+  pub long : length block ≡ size
+  pub old-long : length old ≡ size
+  pub block-is : (s : Settings) → s.size ≡ size → block ≡ block_for s (with_blocks size msg blocks stripe coded) j
+  pub old-is : (s : Settings) → s.size ≡ size → old ≡ old_for s (with_blocks size msg blocks stripe coded)
+
 -- row at has the message to brick j, with its blocks
 pub record One (at j size : ℕ) (msg : Message) (blocks stripe coded numbers bytes numbers' bytes' : List ℕ) : Type 0 where
   pub items : (s : Settings) → s.size ≡ size

@@ -1,5 +1,5 @@
 -- The bench's record and buffers: limits, parts of a buffer, the world, a set that begins.
 pub mod FillLaws
-pub mod KeptPartLaws
+pub mod FrontLaws
 pub mod BenchRangeLaws
 pub mod StateLaws

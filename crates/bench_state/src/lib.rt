@@ -10,14 +10,17 @@ ghost use Rattle.bench_state.specs.Workers.{Small};
 ghost use Rattle.bench_state.specs.Workers.{Begun};
 ghost use Rattle.register.specs.Runs.{fresh_set};
 ghost use Rattle.settings.specs.Ranges.{in_range};
+ghost use Rattle.settings.specs.Refusal.{refusal_in};
 ghost use Rattle.bench_limits.specs.Limits.{bench_bricks, bench_coordinators, stripe_room, kept_room, kept_length, images_length};
+ghost use Rattle.coord_record.specs.Records.{geometry_of};
 
 use bench_limits::{
     BENCH_STRIPES, BRICKS, CAPACITY, COORDINATORS, IMAGE_ROOM, KEPT_ROOM, SIZE, STRIPE_ROOM, UP,
 };
 use coord_record::{Coordinator, Geometry};
-use settings::{Clock, Settings};
+use settings::{Clock, Refusal, Settings};
 
+// stays: `Lining.stage_of` reads n = 0 as no set, and `State.up_of` the flags as numbers.
 // settings: n is 0 while no set is accepted. up: UP for a brick that is up. sent: how many messages were sent.
 #[derive(Clone, Copy)]
 pub struct Bench {
@@ -27,96 +30,96 @@ pub struct Bench {
     pub sent: usize,
 }
 
-// 1 where a setting is outside its range or the bench's limits, else 0.
-pub fn bench_refusal(s: Settings) -> u32
-    ensures { result ≡ bench_refusal s }
+// Refused with 1 where a setting is outside its range or the bench's limits.
+#[tactic(auto, unfolding(crate::specs::Workers::bench_refusal, crate::specs::State::bench_range, crate::specs::State::bench_limits, settings::specs::Ranges::settings_refusal))]
+pub fn check_bench(s: Settings) -> Result<(), Refusal>
+    ensures { refusal_in result ≡ bench_refusal s }
 {
-    let bad = s.refusal();
-    if bad != 0 {
-        return settings::BAD_SETTING;
-    }
+    s.check()?;
     if BRICKS < s.n {
-        return settings::BAD_SETTING;
+        return Err(Refusal::BadSetting);
     }
     if SIZE < s.size {
-        return settings::BAD_SETTING;
+        return Err(Refusal::BadSetting);
     }
     if CAPACITY < s.capacity {
-        return settings::BAD_SETTING;
+        return Err(Refusal::BadSetting);
     }
     if s.stripes != BENCH_STRIPES {
-        return settings::BAD_SETTING;
+        return Err(Refusal::BadSetting);
     }
-    0
+    Ok(())
 }
 
-// An idle coordinator of a set that drew no time yet.
-fn new_coordinator(s: Settings, c: u64) -> Coordinator
-    ensures { result ≡ idle_at s c }
+// The settings as a coordinator knows them.
+#[tactic(auto, unfolding(coord_record::specs::Records::geometry_of))]
+pub fn geometry_of(s: Settings) -> Geometry
+    ensures { result ≡ geometry_of s }
 {
-    let geometry = Geometry {
+    Geometry {
         n: s.n,
         m: s.m,
         size: s.size,
         stripes: s.stripes,
-    };
+    }
+}
+
+// An idle coordinator of a set that drew no time yet.
+#[tactic(auto, unfolding(crate::specs::State::idle_at))]
+fn new_coordinator(s: Settings, c: u64) -> Coordinator
+    ensures { result ≡ idle_at s c }
+{
     let clock = Clock {
         coordinator: c,
         last: 0,
     };
-    coord_record::idle_with(geometry, clock)
+    coord_record::idle_with(geometry_of(s), clock)
 }
 
 // The record of a set that begins.
+#[tactic(auto, unfolding(crate::specs::Workers::fresh_bench))]
 pub fn new_bench(s: Settings) -> Bench
     ensures { result ≡ fresh_bench s }
 {
-    let a = new_coordinator(s, 0);
-    let b = new_coordinator(s, 1);
-    let c = new_coordinator(s, 2);
-    let d = new_coordinator(s, 3);
     Bench {
         settings: s,
         up: [UP; BRICKS],
-        coordinators: [a, b, c, d],
+        coordinators: [
+            new_coordinator(s, 0),
+            new_coordinator(s, 1),
+            new_coordinator(s, 2),
+            new_coordinator(s, 3),
+        ],
         sent: 0,
     }
 }
 
 // The record with another coordinator and number of messages.
+#[tactic(auto, unfolding(crate::specs::Workers::with_coordinator))]
 pub fn with_coordinator(b: Bench, c: usize, next: Coordinator, sent: usize) -> Bench
     requires { c < bench_coordinators }
     ensures value { result ≡ with_coordinator b c next sent }
     ensures coordinators_len { length b.coordinators ≡ bench_coordinators }
 {
-    let mut all = b.coordinators;
-    all[c] = next;
-    let up = b.up;
-    let settings = b.settings;
+    let mut coordinators = b.coordinators;
+    coordinators[c] = next;
     Bench {
-        settings,
-        up,
-        coordinators: all,
+        coordinators,
         sent,
+        ..b
     }
 }
 
 // The record with another number of messages.
+#[tactic(auto, unfolding(crate::specs::Workers::with_sent))]
 pub fn with_sent(b: Bench, sent: usize) -> Bench
     ensures { result ≡ with_sent b sent }
 {
-    let all = b.coordinators;
-    let up = b.up;
-    let settings = b.settings;
-    Bench {
-        settings,
-        up,
-        coordinators: all,
-        sent,
-    }
+    Bench { sent, ..b }
 }
 
 // The record with a brick UP or DOWN.
+#[tactic(auto, unfolding(crate::specs::Workers::with_up))]
 pub fn with_up(b: Bench, brick: usize, flag: u8) -> Bench
     requires { brick < bench_bricks }
     ensures value { result ≡ with_up b brick flag }
@@ -124,14 +127,7 @@ pub fn with_up(b: Bench, brick: usize, flag: u8) -> Bench
 {
     let mut up = b.up;
     up[brick] = flag;
-    let all = b.coordinators;
-    let settings = b.settings;
-    Bench {
-        settings,
-        up,
-        coordinators: all,
-        sent: b.sent,
-    }
+    Bench { up, ..b }
 }
 
 // A coordinator's record.
@@ -140,8 +136,7 @@ pub fn coordinator_at(b: Bench, c: usize) -> Coordinator
     ensures value { result ≡ get_or b.coordinators c (idle_at b.settings c) }
     ensures coordinators_len { length b.coordinators ≡ bench_coordinators }
 {
-    let all = b.coordinators;
-    all[c]
+    b.coordinators[c]
 }
 
 // What a coordinator keeps, copied out.
@@ -152,49 +147,46 @@ pub fn fetch(c: usize, kept: &[u8], blocks: &mut [u8], stripe: &mut [u8])
     ensures stripe_after { stripe.new ≡ take (length stripe.old) (drop (c * kept_room + stripe_room) kept.now) }
 {
     let at = c * KEPT_ROOM;
-    let end = at + blocks.len();
-    byte_lists::copy(&kept[at..end], blocks);
     let from = at + STRIPE_ROOM;
-    let till = from + stripe.len();
-    byte_lists::copy(&kept[from..till], stripe)
+    blocks.copy_from_slice(&kept[at..at + blocks.len()]);
+    stripe.copy_from_slice(&kept[from..from + stripe.len()]);
 }
 
 // What a coordinator keeps, stored.
+#[tactic(auto, unfolding(crate::specs::Workers::kept_with), using(byte_lists::proofs::Laws::PutLaws::put_mid_lem))]
 pub fn keep(c: usize, blocks: &[u8], stripe: &[u8], kept: &mut [u8])
     requires c_lt_bench_coordinators { (c < bench_coordinators) × (length kept.old ≡ kept_length) }
     requires blocks_len_bound { (length blocks.now ≤ stripe_room) × (length stripe.now ≤ stripe_room) }
     ensures { kept.new ≡ kept_with c blocks.now stripe.now kept.old }
 {
     let at = c * KEPT_ROOM;
-    let end = at + blocks.len();
-    byte_lists::copy(blocks, &mut kept[at..end]);
     let from = at + STRIPE_ROOM;
-    let till = from + stripe.len();
-    byte_lists::copy(stripe, &mut kept[from..till])
+    kept[at..at + blocks.len()].copy_from_slice(blocks);
+    kept[from..from + stripe.len()].copy_from_slice(stripe);
 }
 
 // A fresh row for each brick, which is one image.
+#[tactic(auto, using(crate::proofs::Laws::FillLaws::begun_stored))]
 fn fresh_images(s: Settings, images: &mut [u8])
     requires s_value { (in_range s ≡ true) × Small s }
     requires images_len { length images.old ≡ images_length }
     ensures { Begun s images.new s.n }
 {
-    let mut b = 0;
-    while b < s.n {
+    let image = image_block::BLOCK_BYTES * (s.capacity + 1);
+    for b in 0..s.n {
         let at = b * IMAGE_ROOM;
-        let end = at + image_block::BLOCK_BYTES * (s.capacity + 1);
-        volume::write_fresh(s, b, &mut images[at..end]);
-        b += 1;
+        let _ = volume::write_fresh(s, b, &mut images[at..at + image]);
     }
 }
 
 // A set begins.
+#[tactic(auto, using(crate::proofs::Laws::FillLaws::set_begun))]
 pub fn set_up(s: Settings, images: &mut [u8], kept: &mut [u8]) -> Bench
     requires s_value { (in_range s ≡ true) × Small s }
     requires images_len { (length images.old ≡ images_length) × (length kept.old ≡ kept_length) }
     ensures { (result ≡ fresh_bench s) × (world_of result images.new kept.new [] ≡ fresh_set s) }
 {
     fresh_images(s, images);
-    byte_lists::clear(kept);
+    kept.fill(0);
     new_bench(s)
 }

@@ -12,6 +12,7 @@ ghost use Rattle.register.specs.Runs.{goes_down, comes_up};
 
 use bench_rules::After;
 use bench_state::Bench;
+use settings::Refusal;
 
 // A brick goes DOWN or comes UP, by the flag.
 pub fn switch_at(b: Bench, brick: u64, flag: u8, out: &mut [u8]) -> After
@@ -20,10 +21,9 @@ pub fn switch_at(b: Bench, brick: u64, flag: u8, out: &mut [u8]) -> After
         let e = cond (eqb flag up_flag) (comes_up brick) (goes_down brick) in
         Lined b l out.old (switches b.settings (world_in b l) brick e) result l out.new }
 {
-    let s = b.settings;
     let place = brick as usize;
-    if s.n <= place {
-        return bench_rules::refuse(b, settings::BAD_NUMBER, 0, out);
+    if b.settings.n <= place {
+        return bench_rules::refuse(b, Refusal::BadNumber, 0, out);
     }
     let bench = bench_state::with_up(b, place, flag);
     After { bench, used: 0 }

@@ -1,5 +1,5 @@
 -- One message at one brick's image of the message's stripe: the answer, the image and the reply's buffer afterwards, refused calls included.
-use Rattle.std.specs.Prelude.{Bool, cond, ◌&&◌, List, [], ◌∷◌, ℕ, ◌*◌, ◌≤◌, ◌<◌, eqb, ltb, length}
+use Rattle.std.specs.Prelude.{Result, Ok, Err, Option, Some, None, Bool, cond, ◌&&◌, List, [], ◌∷◌, ℕ, ◌*◌, ◌≤◌, ◌<◌, eqb, ltb, length}
 use Rattle.settings.specs.Ranges.{settings_refusal, stripe_refusal}
 use Rattle.settings.specs.Refusal.{passed, refuse_unless, first_refusal, bad_length, bad_number}
 use Rattle.settings.specs.declared.Settings.{Settings}
@@ -9,8 +9,9 @@ use Rattle.image.specs.Brick.{Brick, entry_count, time_at}
 use Rattle.image.specs.Image.{image_of, image_size}
 use Rattle.image.specs.Parse.{Parsed, Opens, Refuses, parse, open_refusal}
 use Rattle.brick_log.specs.BrickRules.{place_for, reply_to, brick_after, block_after}
-use Rattle.brick.specs.declared.Given.{Given}
-use Rattle.brick.specs.declared.Given.TheVariants.{Answered, Silent, Refused}
+use Rattle.message.specs.declared.Reply.{Reply}
+use Rattle.settings.specs.Refusal.{number_of_refusal}
+use Rattle.settings.specs.declared.Refusal.{Refusal}
 
 -- the lengths of what is lent beside a message: its block, the old block that goes with Modify, the reply's buffer
 pub record Beside : Type 0 where
@@ -46,6 +47,18 @@ receive_refusal s brick bytes msg b =
     ∷ open_refusal s brick bytes
     ∷ message_refusal s.n s.m msg
     ∷ [])
+
+-- the answer to a message: a reply, silence, or the number of a refusal
+pub data Given : Type 0 where
+  Answered : Reply → Given
+  Silent : Given
+  Refused : ℕ → Given
+
+-- the answer of the code, by the refusal's number
+abbrev pub given_in : Result (Option Reply) Refusal → Given
+given_in (Ok (Some reply)) = Answered reply
+given_in (Ok None) = Silent
+given_in (Err r) = Refused (number_of_refusal r)
 
 -- the answer, and what the image and the reply's buffer hold afterwards
 pub record Outcome : Type 0 where

@@ -1,84 +1,68 @@
 // One message at one brick (document 01, "What a brick does"), at its image of one stripe.
 #![tactic(auto)]
 
-ghost use Rattle.std.specs.Prelude.{◌≡◌, length, ◌≤◌, ◌<◌};
+ghost use Rattle.std.specs.Prelude.{◌≡◌, length, ◌≤◌, ◌<◌, Ok};
 ghost use Rattle.image.specs.Parse.{Opens, brick_in};
-ghost use Rattle.brick.specs.Receive.{beside_right, front_refusal, outcome_with, accepted, outcome};
+ghost use Rattle.brick.specs.Receive.{front_refusal, outcome_with, given_in, accepted, outcome};
 ghost use Rattle.message.specs.Kinds.{modify_kind};
 ghost use Rattle.settings.specs.Ranges.{max_stripes};
+ghost use Rattle.settings.specs.Refusal.{refusal_in};
 ghost use Rattle.brick_log.specs.Workers.{LogReady, Ahead};
 
-use brick_answer::comparison_of;
-use brick_log::{Known, Plan, change, give, plan_for, remove};
-use image::{ImageAnswer, holder_of, number_of, open};
+use brick_answer::{comparison_of, number_of};
+use brick_log::{Log, Plan, Saved, give};
+use image::open;
 use image_block::BLOCK_BYTES;
-use message::{Message, NO_COMPARISON, Reply, is_silent};
-use settings::{BAD_LENGTH, BAD_NUMBER, PASSED, Settings, stripe_refusal};
+use message::{Message, Reply};
+use settings::{Refusal, Settings};
 
-// The answer to a message.
-#[derive(Clone, Copy)]
-pub enum Given {
-    Answered(Reply),
-    Silent,
-    Refused(u32),
-}
-
-// The answer to a message that is not refused, and what it changes.
+// The answer to a message that is not refused, none for silence; and what the message changes.
 fn act(
-    s: Settings,
-    brick: usize,
+    saved: Saved,
     image: &mut [u8],
-    k: Known,
-    p: Plan,
+    plan: Plan,
     msg: Message,
     block: &[u8],
     old: &[u8],
     out: &mut [u8],
-) -> Given
-    requires log_ready { LogReady s brick image.old k }
-    requires ahead { Ahead brick (brick_in s image.old) k msg p }
-    requires block_len { (length block.now ≡ s.size) × (length old.now ≡ s.size) × (length out.old ≡ s.size) }
-    requires block_lt_m { msg.kind ≡ modify_kind → msg.block < s.m }
-    ensures { outcome_with result image.new out.new
-        ≡ accepted s brick msg block.now old.now image.old out.old (Opens (brick_in s image.old)) }
+) -> Option<Reply>
+    requires log_ready { LogReady saved.s saved.brick image.old saved.k }
+    requires ahead { Ahead saved.brick (brick_in saved.s image.old) saved.k msg plan }
+    requires block_len { (length block.now ≡ saved.s.size) × (length old.now ≡ saved.s.size) × (length out.old ≡ saved.s.size) }
+    requires block_lt_m { msg.kind ≡ modify_kind → msg.block < saved.s.m }
+    ensures { outcome_with (given_in (Ok result)) image.new out.new
+        ≡ accepted saved.s saved.brick msg block.now old.now image.old out.old (Opens (brick_in saved.s image.old)) }
 {
-    if is_silent(msg.kind) {
-        remove(s, brick, image, k, p);
-        return Given::Silent;
+    match plan {
+        Plan::Remove(removal) => {
+            saved.remove(image, removal);
+            None
+        }
+        Plan::Nothing => None,
+        Plan::Answer { place, found } => {
+            give(image, saved.s.size, place, out);
+            let k = saved.k;
+            let said = comparison_of(saved.s.capacity, k.count, k.newest, k.promise, msg);
+            saved.change(image, msg, said, block, old);
+            Some(Reply {
+                kind: msg.kind,
+                brick: saved.brick,
+                stripe: msg.stripe,
+                time: msg.time,
+                round: msg.round,
+                yes: said.is_none(),
+                found,
+                held: place.is_some(),
+                comparison: number_of(said),
+            })
+        }
     }
-    let place = p.place;
-    give(image, s.size, place, out);
-    let said = comparison_of(s.capacity, k.count, k.newest, k.promise, msg);
-    change(s, brick, image, k, msg, said, block, old);
-    Given::Answered(Reply {
-        kind: msg.kind,
-        brick: brick,
-        stripe: msg.stripe,
-        time: msg.time,
-        round: msg.round,
-        yes: said == NO_COMPARISON,
-        found: p.found,
-        held: place != 0,
-        comparison: said,
-    })
 }
 
-// Whether what is lent beside a message has the block size: its block, the old block that goes with Modify, the reply's buffer.
-fn beside_right(s: Settings, block: usize, old: usize, out: usize) -> bool
-    ensures { result ≡ beside_right s (record { block = block; old = old; out = out }) }
-{
-    if block != s.size {
-        return false;
-    }
-    if old != s.size {
-        return false;
-    }
-    out == s.size
-}
-
-// What is tested before an image is looked at, 0 for none: 1 a setting, 2 a length, 3 the brick, 13 the stripe, 14 a data block. images: how
+// What is tested before an image is looked at, refused with 1 a setting, 2 a length, 3 the brick, 13 the stripe, 14 a data block. images: how
 // many are lent, so many bytes in all; block, old and out are lengths.
-pub fn front_refusal(
+#[tactic(auto, unfolding(crate::specs::Receive::front_refusal, crate::specs::Receive::beside_right, image::specs::Image::image_size, settings::specs::Refusal::first_refusal, settings::specs::Ranges::settings_refusal, settings::specs::Ranges::stripe_refusal, message::specs::Messages::message_block_refusal, settings::specs::Ranges::data_block_refusal), using(settings::proofs::Laws::RangeLaws::settings_passed))]
+pub fn check_front(
     s: Settings,
     images: usize,
     brick: usize,
@@ -87,32 +71,26 @@ pub fn front_refusal(
     block: usize,
     old: usize,
     out: usize,
-) -> u32
+) -> Result<(), Refusal>
     requires { images ≤ max_stripes }
-    ensures { result ≡ front_refusal s images brick lent msg (record { block = block; old = old; out = out }) }
+    ensures { refusal_in result ≡ front_refusal s images brick lent msg (record { block = block; old = old; out = out }) }
 {
-    let bad = s.refusal();
-    if bad != PASSED {
-        return bad;
-    }
+    s.check()?;
     if lent != images * (BLOCK_BYTES * (s.capacity + 1)) {
-        return BAD_LENGTH;
+        return Err(Refusal::BadLength);
     }
-    if beside_right(s, block, old, out) {} else {
-        return BAD_LENGTH;
+    if block != s.size || old != s.size || out != s.size {
+        return Err(Refusal::BadLength);
     }
     if s.n <= brick {
-        return BAD_NUMBER;
+        return Err(Refusal::BadNumber);
     }
-    let outside = stripe_refusal(s.stripes, msg.stripe);
-    if outside != PASSED {
-        return outside;
-    }
-    msg.block_refusal(s.m)
+    settings::check_stripe(s.stripes, msg.stripe)?;
+    msg.check_block(s.m)
 }
 
 // One message at the brick's image of the message's stripe, with its block and, for Modify, the old block: the reply, with its block in the
-// lent buffer, or silence, or one refusal; the image is changed in place. A brick of a volume: `volume::receive`.
+// lent buffer, or none for silence, or one refusal; the image is changed in place. A brick of a volume: `volume::receive`.
 pub fn receive(
     s: Settings,
     brick: usize,
@@ -121,11 +99,11 @@ pub fn receive(
     block: &[u8],
     old: &[u8],
     out: &mut [u8],
-) -> Given
-    ensures { outcome_with result image.new out.new
+) -> Result<Option<Reply>, Refusal>
+    ensures { outcome_with (given_in result) image.new out.new
         ≡ outcome s brick image.old msg block.now old.now out.old }
 {
-    let bad = front_refusal(
+    check_front(
         s,
         1,
         brick,
@@ -134,27 +112,19 @@ pub fn receive(
         block.len(),
         old.len(),
         out.len(),
-    );
-    if bad != PASSED {
-        return Given::Refused(bad);
-    }
-    let o = open(s, brick, image);
-    let answer = o.answer;
-    let ImageAnswer::Opened(head) = answer else {
-        return Given::Refused(number_of(answer));
+    )?;
+    let opening = open(s, brick, image);
+    let Ok(opened) = opening else {
+        return Err(opening.unwrap_err());
     };
-    let wrong = msg.refusal(s.n, s.m);
-    if wrong != PASSED {
-        return Given::Refused(wrong);
-    }
-    let log = o.log;
-    let last = log[head.count - 1];
-    let k = Known {
-        count: head.count,
-        promise: head.promise,
-        newest: last.time,
-        holder: holder_of(log, head.count - 1),
+    msg.check(s.n, s.m)?;
+    // stays: tried, the borrow checker does not take an array field straight into a literal
+    let entries = opened.log;
+    let log = Log {
+        entries,
+        count: opened.head.count,
     };
-    let p = plan_for(log, k, msg, brick);
-    act(s, brick, image, k, p, msg, block, old, out)
+    let k = log.known(opened.head.promise);
+    let plan = log.plan_for(k, msg, brick);
+    Ok(act(Saved { s, brick, k }, image, plan, msg, block, old, out))
 }

@@ -1,9 +1,11 @@
 -- Document 01, "What a brick does": the three comparisons of an answer. Document 02, E5: "A brick's reply gains the comparison that said no".
 -- newest and promise are the brick's times, count its entries, capacity the most that it may have.
-use Rattle.std.specs.Prelude.{Bool, false, cond, not, ◌&&◌, ℕ, eqb, leb, ltb}
+use Rattle.std.specs.Prelude.{Option, Some, None, Bool, false, cond, not, ◌&&◌, ℕ, eqb, leb, ltb}
 use Rattle.message.specs.Kinds.{read_kind, modify_kind, no_comparison, newer_time, promise_ahead, full_log}
 use Rattle.message.specs.Messages.{stores_entry}
 use Rattle.message.specs.declared.Message.{Message}
+use Rattle.brick_answer.specs.declared.Comparison.{Comparison}
+use Rattle.brick_answer.specs.declared.Comparison.TheVariants.{NewerTime, PromiseAhead, FullLog}
 
 -- "t is above newest"
 unfoldable pub above_newest : (newest t : ℕ) → Bool
@@ -41,3 +43,14 @@ module _ (capacity count newest promise : ℕ) (msg : Message) where
   first_no =
       cond (newer_says_no newest msg) newer_time
       (cond (promise_says_no newest promise msg) promise_ahead (cond (full_says_no capacity count msg) full_log no_comparison))
+
+-- the number in a reply of the comparison that says no
+abbrev pub number_of_comparison : Comparison → ℕ
+number_of_comparison NewerTime = newer_time
+number_of_comparison PromiseAhead = promise_ahead
+number_of_comparison FullLog = full_log
+
+-- the number of an answer's comparison: none with a yes
+abbrev pub comparison_in : Option Comparison → ℕ
+comparison_in None = no_comparison
+comparison_in (Some c) = number_of_comparison c

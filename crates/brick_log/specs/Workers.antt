@@ -1,5 +1,6 @@
 -- What the working log shows of the brick: the newest time, the lookups, what a Trim and a Drop take out.
-use Rattle.std.specs.Prelude.{◌≡◌, Bool, cond, not, ◌&&◌, List, ℕ, zero, suc, ◌+◌, ◌-◌, ◌*◌, ◌≤◌, ◌<◌, leb, ltb, eqb, take, drop, get_or}
+use Rattle.std.specs.Prelude.{◌≡◌, Bool, false, cond, not, ◌&&◌, List, ℕ, zero, suc, ◌+◌, ◌-◌, ◌*◌, ◌≤◌, ◌<◌, leb, ltb, eqb, take, drop, get_or}
+use Rattle.std.specs.Prelude.{Option, Some, None}
 use Rattle.image.specs.Brick.{Brick, entry_count, time_at, newest}
 use Rattle.image.specs.Parse.{brick_in}
 use Rattle.image.specs.Workers.{ImageOpened}
@@ -7,13 +8,14 @@ use Rattle.settings.specs.declared.Settings.{Settings}
 use Rattle.image.specs.Opening.{holder_of, working_log, blank}
 use Rattle.image.specs.declared.Entry.{Entry}
 use Rattle.message.specs.Flags.{member}
+use Rattle.message.specs.Messages.{is_silent}
 use Rattle.message.specs.declared.Message.{Message}
 use Rattle.brick_log.specs.BrickRules.{place_for, found_for, trimmed_to, dropped_from}
 use Rattle.image_write.specs.Workers.{removed}
 use Rattle.brick_log.specs.declared.Known.{Known}
 use Rattle.brick_log.specs.declared.Plan.{Plan}
-use Rattle.brick_log.specs.declared.Looked.{Looked}
-use Rattle.brick_log.specs.declared.Looked.TheVariants.{Under, Nothing}
+use Rattle.brick_log.specs.declared.Plan.TheVariants.{Answer, Remove, Nothing}
+use Rattle.brick_log.specs.declared.Removal.{Removal}
 use Rattle.image_block.specs.Block.{block_bytes, held_from}
 use Rattle.message.specs.Kinds.{order_read_kind, order_block_kind, read_kind, trim_kind, drop_kind}
 use Rattle.settings.specs.Ranges.{max_capacity}
@@ -38,18 +40,17 @@ unfoldable pub last_in : (ℕ → Bool) → ℕ → ℕ
 last_in p zero = 0
 last_in p (suc i) = cond (p i) (suc i) (last_in p i)
 
--- the lookups in the working log: the highest entry under max,
+-- the lookups in the working log: the highest entry under max, and the entry of time t
 abbrev pub under_in : List Entry → (max n : ℕ) → ℕ
 under_in log max n = last_in (λ (i : ℕ). ltb (log_time log i) max) n
 
--- and the entry of time t
 abbrev pub time_in : List Entry → (t n : ℕ) → ℕ
 time_in log t n = last_in (λ (i : ℕ). eqb (log_time log i) t) n
 
 -- the answer of a lookup: the entry's place, from its place and 1; none for 0
-unfoldable pub looked_in : ℕ → Looked
-looked_in zero = Nothing
-looked_in (suc i) = Under i
+unfoldable pub looked_in : ℕ → Option ℕ
+looked_in zero = None
+looked_in (suc i) = Some i
 
 -- the first place from d on, or the one n further, whose time is not under t
 unfoldable pub cut_from : (ℕ → ℕ) → ℕ → ℕ → ℕ → ℕ
@@ -60,46 +61,41 @@ cut_from times t d (suc n) = cond (ltb (times d) t) (cut_from times t (d + 1) n)
 unfoldable pub cut_for : List Entry → ℕ → ℕ → ℕ
 cut_for log n t = cut_from (log_time log) t 0 (n - 1)
 
--- the place that a lookup gave is one of the working log
-unfoldable pub LookedLow : Looked → Type 0
-LookedLow (Under i) = i < max_capacity
-LookedLow Nothing = Unit {0}
+-- what is known of an opened brick, from its log of n entries and its promise
+abbrev pub known_of : List Entry → (n promise : ℕ) → Known
+known_of log n promise = record { count = n; promise = promise; newest = log_time log (n - 1); holder = holder_of log (n - 1) }
 
--- a plan by its parts: what goes with a reply,
-unfoldable pub plan_of : (place found : ℕ) → Plan
-plan_of place found = record { place = place; found = found; from = 0; cut = 0; holder = 0; lowest = 0 }
-
--- or what goes: so many entries from a place on; and of the entry right above them the block of the image that holds it, and its time
-unfoldable pub remove_plan : (from cut holder lowest : ℕ) → Plan
-remove_plan from cut holder lowest = record { place = 0; found = 0; from = from; cut = cut; holder = holder; lowest = lowest }
+-- what goes: so many entries from a place on; and of the entry right above them the block of the image that holds it, and its time
+abbrev pub removal : (from cut holder lowest : ℕ) → Removal
+removal from cut holder lowest = record { from = from; cut = cut; holder = holder; lowest = lowest }
 
 -- a Trim: the first d
-unfoldable pub trim_plan : List Entry → ℕ → Plan
-trim_plan log d = remove_plan 0 d (holder_of log d) (log_time log d)
+unfoldable pub trim_plan : List Entry → ℕ → Removal
+trim_plan log d = removal 0 d (holder_of log d) (log_time log d)
 
 -- a Drop of entry i of n: "the lowest mark that means the dropped block becomes that block first" is the entry right above, if block i + 1 of
 -- the image, that of entry i, holds it
-unfoldable pub drop_at : List Entry → (n i : ℕ) → Plan
+unfoldable pub drop_at : List Entry → (n i : ℕ) → Removal
 drop_at log n i =
-    cond (eqb (i + 1) n) (remove_plan i 1 (i + 1 + 1) 0)
-    (cond (eqb (holder_of log (i + 1)) (i + 1)) (remove_plan i 1 (i + 1) (log_time log (i + 1))) (remove_plan i 1 (i + 1 + 1) 0))
+    cond (eqb (i + 1) n) (removal i 1 (i + 1 + 1) 0)
+    (cond (eqb (holder_of log (i + 1)) (i + 1)) (removal i 1 (i + 1) (log_time log (i + 1))) (removal i 1 (i + 1 + 1) 0))
 
-unfoldable pub drop_in : List Entry → ℕ → Looked → Plan
-drop_in log n (Under i) = drop_at log n i
-drop_in log n Nothing = plan_of 0 0
+unfoldable pub drop_in : List Entry → ℕ → Option ℕ → Plan
+drop_in log n (Some i) = Remove (drop_at log n i)
+drop_in log n None = Nothing
 
 -- "unless it is the only one it has"
 unfoldable pub drop_plan : List Entry → (n t : ℕ) → Plan
-drop_plan log n t = cond (eqb n 1) (plan_of 0 0) (drop_in log n (looked_in (time_in log t n)))
+drop_plan log n t = cond (eqb n 1) Nothing (drop_in log n (looked_in (time_in log t n)))
 
 -- the plan for the answer of a lookup
-unfoldable pub plan_in : List Entry → Looked → Plan
-plan_in log (Under i) = plan_of (holder_of log i) (log_time log i)
-plan_in log Nothing = plan_of 0 0
+unfoldable pub plan_in : List Entry → Option ℕ → Plan
+plan_in log (Some i) = Answer (Some (holder_of log i)) (log_time log i)
+plan_in log None = Answer None 0
 
 -- the block that Read gives
-unfoldable pub read_place : Known → List ℕ → ℕ → ℕ
-read_place k targets brick = cond (leb k.promise k.newest && member targets brick) k.holder 0
+unfoldable pub read_place : Known → List ℕ → ℕ → Option ℕ
+read_place k targets brick = cond (leb k.promise k.newest && member targets brick) (Some k.holder) None
 
 -- an Order of the message's time is granted
 unfoldable pub granted : Known → Message → Bool
@@ -107,28 +103,30 @@ granted k msg = ltb k.newest msg.time && leb k.promise msg.time
 
 -- what the first round of a block write gives
 unfoldable pub block_plan : Known → Message → ℕ → Plan
-block_plan k msg brick = cond (granted k msg) (plan_of (cond (eqb brick msg.block) k.holder 0) k.newest) (plan_of 0 0)
+block_plan k msg brick = cond (granted k msg) (Answer (cond (eqb brick msg.block) (Some k.holder) None) k.newest) (Answer None 0)
 
 -- the block that Order-and-read gives, by the entry's place and 1
-unfoldable pub under_for : List Entry → Known → Message → ℕ
-under_for log k msg = cond (granted k msg) (under_in log msg.max k.count) 0
+unfoldable pub under_for : List Entry → ℕ → Known → Message → ℕ
+under_for log n k msg = cond (granted k msg) (under_in log msg.max n) 0
 
 -- what a message asks for, by its kind
-unfoldable pub plan_for : List Entry → Known → Message → ℕ → Plan
-plan_for log k msg brick =
-    cond (eqb msg.kind trim_kind) (trim_plan log (cut_for log k.count msg.time))
-    (cond (eqb msg.kind drop_kind) (drop_plan log k.count msg.time)
-    (cond (eqb msg.kind read_kind) (plan_of (read_place k msg.targets brick) k.newest)
-    (cond (eqb msg.kind order_read_kind) (plan_in log (looked_in (under_for log k msg)))
-    (cond (eqb msg.kind order_block_kind) (block_plan k msg brick) (plan_of 0 0)))))
+unfoldable pub plan_for : List Entry → ℕ → Known → Message → ℕ → Plan
+plan_for log n k msg brick =
+    cond (eqb msg.kind trim_kind) (Remove (trim_plan log (cut_for log n msg.time)))
+    (cond (eqb msg.kind drop_kind) (drop_plan log n msg.time)
+    (cond (eqb msg.kind read_kind) (Answer (read_place k msg.targets brick) k.newest)
+    (cond (eqb msg.kind order_read_kind) (plan_in log (looked_in (under_for log n k msg)))
+    (cond (eqb msg.kind order_block_kind) (block_plan k msg brick) (Answer None 0)))))
 
 -- the bytes of a block of the image, or what the buffer held
-unfoldable pub gave_of : List ℕ → ℕ → ℕ → List ℕ → List ℕ
-gave_of l size place out = cond (eqb place 0) out (take size (drop (block_bytes * place + held_from) l))
+unfoldable pub gave_of : List ℕ → ℕ → Option ℕ → List ℕ → List ℕ
+gave_of l size None out = out
+gave_of l size (Some place) out = take size (drop (block_bytes * place + held_from) l)
 
--- the block of the image that an entry means, by its place and 1; 0 for none
-unfoldable pub holder_for : Brick → ℕ → ℕ
-holder_for x place = cond (eqb place 0) 0 (holder_of (working_log x) (place - 1))
+-- the block of the image that an entry means, by its place and 1; none for 0
+unfoldable pub holder_for : Brick → ℕ → Option ℕ
+holder_for x zero = None
+holder_for x (suc i) = Some (holder_of (working_log x) i)
 
 -- an entry that another block of the image holds: which, and its time
 pub record HeldElsewhere (x : Brick) (k : Known) (i holder lowest : ℕ) : Type 0 where
@@ -137,22 +135,27 @@ pub record HeldElsewhere (x : Brick) (k : Known) (i holder lowest : ℕ) : Type 
   pub lowest-is : lowest ≡ time_at x i
 
 -- what goes is in the log; the entry right above has its own block, or is one that another holds
-pub record RemoveReady (x : Brick) (k : Known) (p : Plan) : Type 0 where
-  pub within : p.from + p.cut ≤ k.count
-  pub above : (p.cut ≡ 0 → ⊥) → (p.holder ≡ p.from + p.cut + 1 → ⊥) → HeldElsewhere x k (p.from + p.cut) p.holder p.lowest
+pub record RemoveReady (x : Brick) (k : Known) (r : Removal) : Type 0 where
+  pub within : r.from + r.cut ≤ k.count
+  pub above : (r.cut ≡ 0 → ⊥) → (r.holder ≡ r.from + r.cut + 1 → ⊥) → HeldElsewhere x k (r.from + r.cut) r.holder r.lowest
 
 -- the brick without what goes: the entry right above has its block then, if another block of the image held it
-unfoldable pub removed_by : Brick → Plan → Brick
-removed_by x p = cond (eqb p.cut 0) x (removed x p.from p.cut (not (eqb p.holder (p.from + p.cut + 1))))
+unfoldable pub removed_by : Brick → Removal → Brick
+removed_by x r = cond (eqb r.cut 0) x (removed x r.from r.cut (not (eqb r.holder (r.from + r.cut + 1))))
 
--- the plan takes out what leaves y
-pub record Removes (x : Brick) (k : Known) (p : Plan) (y : Brick) : Type 0 where
-  pub ready : RemoveReady x k p
-  pub leaves : y ≡ removed_by x p
+-- what goes leaves y
+pub record Removes (x : Brick) (k : Known) (r : Removal) (y : Brick) : Type 0 where
+  pub ready : RemoveReady x k r
+  pub leaves : y ≡ removed_by x r
+
+-- the plan, one of a Trim or a Drop, takes out what leaves y
+unfoldable pub Takes : Brick → Known → Plan → Brick → Type 0
+Takes x k (Answer place found) y = ⊥
+Takes x k (Remove r) y = Removes x k r y
+Takes x k Nothing y = y ≡ x
 
 -- the plan is what the message asks of the brick
 pub record Ahead (brick : ℕ) (x : Brick) (k : Known) (msg : Message) (p : Plan) : Type 0 where
-  pub place_is : p.place ≡ holder_for x (place_for brick x msg)
-  pub found-is : p.found ≡ found_for brick x msg
-  pub trims : msg.kind ≡ trim_kind → Removes x k p (trimmed_to x msg.time)
-  pub drops : msg.kind ≡ drop_kind → Removes x k p (dropped_from x msg.time)
+  pub answers : is_silent msg.kind ≡ false → p ≡ Answer (holder_for x (place_for brick x msg)) (found_for brick x msg)
+  pub trims : msg.kind ≡ trim_kind → Takes x k p (trimmed_to x msg.time)
+  pub drops : msg.kind ≡ drop_kind → Takes x k p (dropped_from x msg.time)

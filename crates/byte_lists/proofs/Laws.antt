@@ -5,6 +5,6 @@ pub mod TabulateLaws
 pub mod PutLaws
 pub mod StackLaws
 pub mod SameLaws
-pub mod CompareLaws
 pub mod BoolLaws
 pub mod ZeroLaws
+pub mod OverRangeLaws

@@ -10,38 +10,31 @@ ghost use Rattle.byte_lists.specs.Lists.{put, zeros, same};
 pub fn wide(x: u8) -> u64
     ensures { (result ≡ x) × (result < 256) }
 {
-    x as u64
+    u64::from(x)
 }
 
 // The number in the two bytes from `at`.
+#[tactic(auto, using(crate::proofs::Laws::LittleLaws::number_2))]
 pub fn read2(b: &[u8], at: usize) -> u64
     requires { at + 2 ≤ length b.now }
     ensures { (result ≡ number (take 2 (drop at b.now))) × (result < 65536) }
 {
-    wide(b[at]) + 256 * wide(b[at + 1])
-}
-
-// The number in the four bytes from `at`.
-fn read4(b: &[u8], at: usize) -> u64
-    requires { at + 4 ≤ length b.now }
-    ensures { (result ≡ number (take 4 (drop at b.now))) × (result < 4294967296) }
-{
-    let low = read2(b, at);
-    let high = read2(b, at + 2);
-    low + 65536 * high
+    u64::from(u16::from_le_bytes([b[at], b[at + 1]]))
 }
 
 // The number in the eight bytes from `at`.
+#[tactic(auto, using(crate::proofs::Laws::LittleLaws::number_8))]
 pub fn read8(b: &[u8], at: usize) -> u64
     requires { at + 8 ≤ length b.now }
     ensures { result ≡ number (take 8 (drop at b.now)) }
 {
-    let low = read4(b, at);
-    let high = read4(b, at + 4);
-    low + 4294967296 * high
+    let bytes: [u8; 8] = b[at..at + 8].try_into().unwrap();
+    u64::from_le_bytes(bytes)
 }
 
 // The lowest byte of a number.
+// stays: a remainder and a cast, as `n.to_le_bytes()[0]` is no plainer. No caller is left here; outside callers may have it.
+#[tactic(auto, unfolding(crate::specs::Little::byte_of))]
 pub fn byte(n: u64) -> u8
     ensures { result ≡ byte_of n }
 {
@@ -53,18 +46,15 @@ pub fn wide_index(x: u8) -> usize
     ensures value { result ≡ x }
     ensures upper_bound { result < 256 }
 {
-    x as usize
+    usize::from(x)
 }
 
 // Every byte 0.
+#[tactic(auto, unfolding(crate::specs::Lists::zeros))]
 pub fn clear(out: &mut [u8])
     ensures { out.new ≡ zeros (length out.old) }
 {
-    let mut i = 0;
-    while i < out.len() {
-        out[i] = 0;
-        i += 1;
-    }
+    out.fill(0);
 }
 
 // Bytes copied into others of the same number.
@@ -72,37 +62,23 @@ pub fn copy(from: &[u8], to: &mut [u8])
     requires { length from.now ≡ length to.old }
     ensures { to.new ≡ from.now }
 {
-    let mut i = 0;
-    while i < to.len() {
-        to[i] = from[i];
-        i += 1;
-    }
+    to.copy_from_slice(from);
 }
 
 // Whether bytes are the same as others of the same number.
+#[tactic(auto, using(crate::proofs::Laws::SameLaws::same_is_pointwise))]
 pub fn same_bytes(a: &[u8], b: &[u8]) -> bool
     requires { length a.now ≡ length b.now }
     ensures { result ≡ same a.now b.now }
 {
-    let mut differ: u8 = 0;
-    let mut p = 0;
-    while p < b.len() {
-        if a[p] != b[p] {
-            differ = 1;
-        }
-        p += 1;
-    }
-    differ == 0
+    a == b
 }
 
 // Bytes stored in a list from a place on.
+#[tactic(auto, using(crate::proofs::Laws::PutLaws::put_mid_lem))]
 pub fn store(l: &mut [u8], at: usize, b: &[u8])
     requires { at + length b.now ≤ length l.old }
     ensures { l.new ≡ put at b.now l.old }
 {
-    let mut i: usize = 0;
-    while i < b.len() {
-        l[at + i] = b[i];
-        i += 1;
-    }
+    l[at..at + b.len()].copy_from_slice(b);
 }

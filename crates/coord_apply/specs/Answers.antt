@@ -1,14 +1,16 @@
 -- What one event at a coordinator gives: a refusal, or the later coordinator, a list of broadcasts to all n bricks, and what is seen.
-use Rattle.std.specs.Prelude.{cond, ◌&&◌, List, [], ◌∷◌, ℕ, zero, suc, eqb, leb, length, take}
+use Rattle.std.specs.Prelude.{Result, Ok, Err, cond, ◌&&◌, List, [], ◌∷◌, ℕ, zero, suc, eqb, leb, length, take}
 use Rattle.coord_record.specs.Records.{idle_kind, on_block, no_bricks}
 use Rattle.coord_letters.specs.Letters.{no_letter, letter_f, letter_s, letter_c, read_letter, abort_letter}
 use Rattle.coord_record.specs.declared.Coordinator.{Coordinator}
 use Rattle.coord_record.specs.declared.Op.{Op}
 use Rattle.coord_record.specs.declared.Tally.{Tally}
-use Rattle.coord_apply.specs.declared.Answer.{Answer}
+use Rattle.coord_apply.specs.declared.Answer as Code
 use Rattle.coord_apply.specs.declared.Notice.{Notice}
 use Rattle.message.specs.Kinds.{write_kind}
 use Rattle.message.specs.declared.Message.{Message}
+use Rattle.settings.specs.Refusal.{passed, number_of_refusal}
+use Rattle.settings.specs.declared.Refusal.{Refusal}
 
 -- A coordinator with what it keeps in lent buffers: the blocks of the replies, brick b's at b × size, and the stripe.
 pub record Buffered : Type 0 where
@@ -97,6 +99,25 @@ sent_message (suc k) (b ∷ rest) = sent_message k rest
 unfoldable pub sent_blocks : List Broadcast → List ℕ → List ℕ
 sent_blocks [] old = old
 sent_blocks (b ∷ rest) old = sent_blocks rest (cond (eqb b.message.kind write_kind) b.blocks old)
+
+-- What a routine answers: 0, the record that follows and what is sent and seen; or a refusal's number alone, and the record as it was.
+pub record Answer : Type 0 where
+  pub refusal : ℕ
+  pub next : Coordinator
+  pub sent : ℕ
+  pub message : Message
+  pub second : Message
+  pub seen : Notice
+
+-- the answer that is not refused, as the code gives it
+abbrev pub answered : Code.Answer → Answer
+answered a = record { refusal = passed; next = a.next; sent = a.sent; message = a.message; second = a.second; seen = a.seen }
+
+-- the answer of the code, at the record that a refusal leaves
+abbrev pub answer_in : Coordinator → Result Code.Answer Refusal → Answer
+answer_in c (Ok a) = answered a
+answer_in c (Err r) =
+    record { refusal = number_of_refusal r; next = c; sent = 0; message = no_message; second = no_message; seen = nothing_seen }
 
 -- the answer of a routine at a coordinator
 unfoldable pub answer_of : Coordinator → Step → Answer

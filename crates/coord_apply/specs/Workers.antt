@@ -7,8 +7,7 @@ use Rattle.coord_record.specs.declared.Op.{Op}
 use Rattle.coord_record.specs.declared.Coordinator.{Coordinator}
 use Rattle.coord_decide.specs.declared.Decision.{Decision}
 use Rattle.message.specs.declared.Message.{Message}
-use Rattle.settings.specs.Ranges.{CodeRange}
-use Rattle.coord_apply.specs.declared.Answer.{Answer}
+use Rattle.coord_apply.specs.Answers.{Answer}
 use Rattle.coord_apply.specs.Acts.{round_message, notice_of, next_op, opened, acted}
 use Rattle.message.specs.Kinds.{last_round}
 
@@ -51,7 +50,6 @@ finished_letter op = cond (is_reading op.kind) (read_letter op) letter_s
 
 -- what holds where a decision is carried out: the numbers are the lengths of the reply blocks and of the stripe
 pub record DecisionReady (n m size : ℕ) (c : Coordinator) (blocks stripe : ℕ) : Type 0 where
-  pub range : CodeRange n m size
   pub first-low : c.op.first < n
   pub block-low : on_block c.op.kind ≡ true → c.op.first < m
   pub round-low : c.op.round ≤ last_round

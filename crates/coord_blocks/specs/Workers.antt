@@ -2,7 +2,7 @@
 use Rattle.std.specs.Prelude.{true, List, ◌≡◌, ℕ, ◌+◌, ◌*◌, ◌≤◌, ◌<◌, get_or, length}
 use Rattle.coord_record.specs.Records.{on_block}
 use Rattle.coord_record.specs.declared.Op.{Op}
-use Rattle.settings.specs.Ranges.{CodeRange, max_bricks, max_size}
+use Rattle.settings.specs.Ranges.{max_bricks, max_size}
 
 -- the block of each of the first k bricks of a row is within the blocks
 pub record InPlace (k size : ℕ) (bricks blocks : List ℕ) : Type 0 where
@@ -19,7 +19,6 @@ pub record HandedOn (m size k : ℕ) (row blocks : List ℕ) : Type 0 where
 
 -- what holds where the blocks that an operation asked for are taken: the numbers are the lengths of the reply blocks and of the stripe
 pub record BlocksReady (n m size : ℕ) (op : Op) (blocks stripe : ℕ) : Type 0 where
-  pub range : CodeRange n m size
   pub first-low : op.first < n
   pub block-low : on_block op.kind ≡ true → op.first < m
   pub blocks-length : blocks ≡ n * size

@@ -3,198 +3,145 @@
 // inner: call `coordinator::take_reply`
 #![tactic(auto)]
 
-ghost use Rattle.std.specs.Prelude.{cond, true, ◌≡◌, ◌+◌, ◌*◌, ◌≤◌, ◌<◌, length, take};
+ghost use Rattle.std.specs.Prelude.{cond, true, ◌≡◌, ◌+◌, ◌*◌, ◌≤◌, ◌<◌, length};
 ghost use Rattle.coord_blocks.specs.Blocks.{stripe_from, agreeing, given_stripe, stored_stripe};
 ghost use Rattle.coord_blocks.specs.Workers.{InPlace, HandedOn, BlocksReady};
-ghost use Rattle.coord_record.specs.Records.{on_block, target_count};
-ghost use Rattle.coord_tally.specs.Counting.{target_row};
+ghost use Rattle.coord_record.specs.Records.{on_block};
 ghost use Rattle.erasure.specs.Code.{block_of, blocks_of, with_block};
 ghost use Rattle.interpolate.specs.Values.{PointSet};
-ghost use Rattle.settings.specs.Ranges.{max_bricks, max_size};
+ghost use Rattle.settings.specs.Ranges.{max_bricks};
 
 use coord_record::Op;
-use settings::MAX_BRICKS;
+use settings::{Code, MAX_SIZE};
+
+// Block b of a row of blocks.
+#[tactic(auto, using(crate::proofs::Laws::BufferLaws::block_cut, crate::proofs::Laws::BufferLaws::cut_length))]
+fn block_at(size: usize, b: usize, blocks: &[u8]) -> &[u8]
+    requires { b * size + size ≤ length blocks.now }
+    ensures value { result.now ≡ block_of size blocks.now b }
+    ensures block_length { length result.now ≡ size }
+{
+    let at = b * size;
+    &blocks[at..at + size]
+}
 
 // A reply's block in its place.
+#[tactic(auto, using(crate::proofs::Laws::BufferLaws::place_is))]
 pub fn place(size: usize, b: usize, block: &[u8], blocks: &mut [u8])
     requires { (length block.now ≡ size) × (b * size + size ≤ length blocks.old) }
     ensures { blocks.new ≡ with_block size blocks.old b block.now }
 {
     let at = b * size;
-    let end = at + size;
-    byte_lists::copy(block, &mut blocks[at..end])
+    blocks[at..at + size].copy_from_slice(block);
 }
 
-// The blocks of the first k bricks of a row, one after the other.
-fn gather(k: usize, size: usize, bricks: [u8; MAX_BRICKS], blocks: &[u8], out: &mut [u8])
-    requires k_le_max_bricks { (k ≤ max_bricks) × (length out.old ≡ k * size) }
-    requires in_place { InPlace k size bricks blocks.now }
-    ensures { out.new ≡ blocks_of size blocks.now (take k bricks) }
+// The blocks of these bricks, one after the other.
+#[tactic(auto, using(crate::proofs::Laws::BufferLaws::gathering))]
+fn gather(size: usize, bricks: &[u8], blocks: &[u8], out: &mut [u8])
+    requires few { length bricks.now ≤ max_bricks }
+    requires room { length out.old ≡ length bricks.now * size }
+    requires in_place { InPlace (length bricks.now) size bricks.now blocks.now }
+    ensures { out.new ≡ blocks_of size blocks.now bricks.now }
 {
-    let mut i = 0;
-    let mut at = 0;
-    while i < k {
-        let from = byte_lists::wide_index(bricks[i]) * size;
-        let till = from + size;
-        let end = at + size;
-        byte_lists::copy(&blocks[from..till], &mut out[at..end]);
-        at = end;
-        i += 1;
+    for (i, brick) in bricks.iter().enumerate() {
+        place(size, i, block_at(size, usize::from(*brick), blocks), out);
     }
 }
 
-// The stripe that the blocks of the first m bricks of a row decode to; they are gathered in a buffer that is long enough.
-fn decode_by(
-    m: usize,
-    size: usize,
-    bricks: [u8; MAX_BRICKS],
-    blocks: &[u8],
-    work: &mut [u8],
-    stripe: &mut [u8],
-)
-    requires m_le_max_bricks { (m ≤ max_bricks) × (m * size ≤ length work.old) }
+// Room for the blocks of any bricks.
+const ROOM: usize = settings::MAX_BRICKS * MAX_SIZE;
+
+// The stripe that the blocks of m bricks decode to.
+#[tactic(auto, using(crate::proofs::Laws::BufferLaws::front_is), unfolding(crate::specs::Blocks::stripe_from))]
+fn decode_from(code: Code, bricks: &[u8], blocks: &[u8], stripe: &mut [u8])
+    requires bricks_len { length bricks.now ≡ code.m }
+    requires stripe_len { length stripe.old ≡ code.m * code.size }
+    requires point_set { PointSet bricks.now }
+    requires in_place { InPlace code.m code.size bricks.now blocks.now }
+    ensures { stripe.new ≡ stripe_from code.m code.size bricks.now blocks.now }
+{
+    let mut room = [0u8; ROOM];
+    let end = code.m * code.size;
+    gather(code.size, bricks, blocks, &mut room[..end]);
+    erasure::decode_into(code.m, code.size, bricks, &room[..end], stripe)
+}
+
+// Whether the blocks of these bricks agree; if so, the stripe that they decode to, else nothing is written.
+#[tactic(auto, using(crate::proofs::Laws::BufferLaws::front_is), unfolding(crate::specs::Blocks::stripe_from, crate::specs::Blocks::agreeing))]
+fn check_from(m: usize, size: usize, bricks: &[u8], blocks: &[u8], stripe: &mut [u8]) -> bool
+    requires handed_on { HandedOn m size (length bricks.now) bricks.now blocks.now }
     requires stripe_len { length stripe.old ≡ m * size }
-    requires point_set { PointSet (take m bricks) }
-    requires in_place { InPlace m size bricks blocks.now }
-    ensures { stripe.new ≡ stripe_from m size (take m bricks) blocks.now }
+    ensures value { result ≡ agreeing m size bricks.now blocks.now }
+    ensures stripe_after { stripe.new ≡ cond result (stripe_from m size bricks.now blocks.now) stripe.old }
 {
-    let end = m * size;
-    gather(m, size, bricks, blocks, &mut work[..end]);
-    erasure::decode_into(m, size, &bricks[..m], &work[..end], stripe)
+    let mut room = [0u8; ROOM];
+    let end = bricks.len() * size;
+    gather(size, bricks, blocks, &mut room[..end]);
+    erasure::decode_checked(m, size, bricks, &room[..end], stripe)
 }
 
-// Room for the blocks of any bricks: 16 of 256 bytes.
-const WORK: usize = 4096;
-
-// The same, with a buffer of its own.
-fn decode_from(m: usize, size: usize, bricks: [u8; MAX_BRICKS], blocks: &[u8], stripe: &mut [u8])
-    requires m_le_max_bricks { (m ≤ max_bricks) × (size ≤ max_size) }
-    requires stripe_len { length stripe.old ≡ m * size }
-    requires point_set { PointSet (take m bricks) }
-    requires in_place { InPlace m size bricks blocks.now }
-    ensures { stripe.new ≡ stripe_from m size (take m bricks) blocks.now }
-{
-    let mut work = [0u8; WORK];
-    decode_by(m, size, bricks, blocks, &mut work, stripe)
-}
-
-// Whether the blocks of the first k bricks of a row agree; if so, the stripe that they decode to, else nothing is written. They are gathered
-// in a buffer that is long enough.
-fn check_by(
-    m: usize,
-    size: usize,
-    k: usize,
-    bricks: [u8; MAX_BRICKS],
-    blocks: &[u8],
-    work: &mut [u8],
-    stripe: &mut [u8],
-) -> bool
-    requires handed_on { HandedOn m size k bricks blocks.now }
-    requires stripe_len { (length stripe.old ≡ m * size) × (k * size ≤ length work.old) }
-    ensures value { result ≡ agreeing m size (take k bricks) blocks.now }
-    ensures stripe_after { stripe.new ≡ cond result (stripe_from m size (take k bricks) blocks.now) stripe.old }
-{
-    let end = k * size;
-    gather(k, size, bricks, blocks, &mut work[..end]);
-    erasure::decode_checked(m, size, &bricks[..k], &work[..end], stripe)
-}
-
-// The same, with a buffer of its own.
-fn check_from(
-    m: usize,
-    size: usize,
-    k: usize,
-    bricks: [u8; MAX_BRICKS],
-    blocks: &[u8],
-    stripe: &mut [u8],
-) -> bool
-    requires handed_on { HandedOn m size k bricks blocks.now }
-    requires stripe_len { length stripe.old ≡ m * size }
-    ensures value { result ≡ agreeing m size (take k bricks) blocks.now }
-    ensures stripe_after { stripe.new ≡ cond result (stripe_from m size (take k bricks) blocks.now) stripe.old }
-{
-    let mut work = [0u8; WORK];
-    check_by(m, size, k, bricks, blocks, &mut work, stripe)
-}
-
-// Block j of one row of blocks in its place in another.
-fn copy_block(size: usize, j: usize, from: &[u8], to: &mut [u8])
-    requires { (j * size + size ≤ length from.now) × (j * size + size ≤ length to.old) }
-    ensures { to.new ≡ with_block size to.old j (block_of size from.now j) }
-{
-    let at = j * size;
-    let end = at + size;
-    byte_lists::copy(&from[at..end], &mut to[at..end])
-}
-
-// Decodes from the targets; of a read of one block takes that block alone, from its brick.
-pub fn take_given(
-    n: usize,
-    m: usize,
-    size: usize,
-    op: Op,
-    row: [u8; MAX_BRICKS],
-    blocks: &[u8],
-    stripe: &mut [u8],
-)
-    requires blocks_ready { BlocksReady n m size op (length blocks.now) (length stripe.old) }
-    requires row_value { row ≡ target_row n (target_count m op.kind) op.first }
-    ensures { stripe.new ≡ given_stripe n m size op blocks.now stripe.old }
+// The stripe of a read of one round: decoded from the targets; of a read of one block that block alone, from its brick.
+#[tactic(auto, using(crate::proofs::Laws::BufferLaws::targets), unfolding(crate::specs::Blocks::given_stripe))]
+pub fn take_given(code: Code, op: Op, blocks: &[u8], stripe: &mut [u8])
+    requires { BlocksReady code.n code.m code.size op (length blocks.now) (length stripe.old) }
+    ensures { stripe.new ≡ given_stripe code.n code.m code.size op blocks.now stripe.old }
 {
     if coord_record::on_block(op.kind) {
-        copy_block(size, op.first, blocks, stripe)
+        place(
+            code.size,
+            op.first,
+            block_at(code.size, op.first, blocks),
+            stripe,
+        );
     } else {
-        decode_from(m, size, row, blocks, stripe)
+        let row = coord_tally::target_row(code.n, code.m, op.first);
+        decode_from(code, &row[..code.m], blocks, stripe);
     }
 }
 
-// As `check_from`, but block j of the stripe stays as it was: it is kept aside meanwhile, in a buffer that is long enough.
+// As `check_from`, but block j of the stripe stays as it was: it is kept aside meanwhile.
 fn check_around(
     m: usize,
     size: usize,
     j: usize,
-    k: usize,
-    row: [u8; MAX_BRICKS],
+    bricks: &[u8],
     blocks: &[u8],
-    aside: &mut [u8],
     stripe: &mut [u8],
 ) -> bool
-    requires handed_on { HandedOn m size k row blocks.now }
-    requires size_in_bounds { (j * size + size ≤ length stripe.old) × (length stripe.old ≡ m * size) × (size ≤ length aside.old) }
-    ensures value { result ≡ agreeing m size (take k row) blocks.now }
-    ensures stripe_after { stripe.new ≡ cond result (with_block size (stripe_from m size (take k row) blocks.now) j
+    requires handed_on { HandedOn m size (length bricks.now) bricks.now blocks.now }
+    requires stripe_len { (j < m) × (length stripe.old ≡ m * size) }
+    ensures value { result ≡ agreeing m size bricks.now blocks.now }
+    ensures stripe_after { stripe.new ≡ cond result (with_block size (stripe_from m size bricks.now blocks.now) j
         (block_of size stripe.old j)) stripe.old }
 {
-    let at = j * size;
-    let end = at + size;
-    byte_lists::store(aside, 0, &stripe[at..end]);
-    if check_from(m, size, k, row, blocks, stripe) {
-        byte_lists::store(stripe, at, &aside[..size]);
-        return true;
+    let mut aside = [0u8; MAX_SIZE];
+    aside[..size].copy_from_slice(block_at(size, j, stripe));
+    let agree = check_from(m, size, bricks, blocks, stripe);
+    if agree {
+        place(size, j, &aside[..size], stripe);
     }
-    false
+    agree
 }
 
-// What a recovery stores: the stripe that the blocks of the first k bricks of a row decode to; of a block write with its own block in its place.
+// What a recovery stores: the stripe that the blocks of these bricks decode to; of a block write with its own block in its place.
 // Whether the blocks agree; if not, nothing is written.
+#[tactic(auto, unfolding(crate::specs::Blocks::stored_stripe, coord_record::specs::Records::on_block))]
 pub fn decode_stored(
     m: usize,
     size: usize,
     op: Op,
-    k: usize,
-    row: [u8; MAX_BRICKS],
+    bricks: &[u8],
     blocks: &[u8],
     stripe: &mut [u8],
 ) -> bool
-    requires handed_on { HandedOn m size k row blocks.now }
+    requires handed_on { HandedOn m size (length bricks.now) bricks.now blocks.now }
     requires first_lt_m { (on_block op.kind ≡ true → op.first < m) × (length stripe.old ≡ m * size) }
-    ensures value { result ≡ agreeing m size (take k row) blocks.now }
-    ensures stripe_after { stripe.new ≡ cond result (stored_stripe size op stripe.old (stripe_from m size (take k row) blocks.now))
+    ensures value { result ≡ agreeing m size bricks.now blocks.now }
+    ensures stripe_after { stripe.new ≡ cond result (stored_stripe size op stripe.old (stripe_from m size bricks.now blocks.now))
         stripe.old }
 {
     if op.kind == coord_record::WRITING_BLOCK {
-        let mut aside = [0u8; settings::MAX_SIZE];
-        return check_around(m, size, op.first, k, row, blocks, &mut aside, stripe);
+        return check_around(m, size, op.first, bricks, blocks, stripe);
     }
-    check_from(m, size, k, row, blocks, stripe)
+    check_from(m, size, bricks, blocks, stripe)
 }

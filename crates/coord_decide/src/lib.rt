@@ -3,9 +3,10 @@
 #![tactic(auto)]
 
 ghost use Rattle.std.specs.Prelude.{◌≡◌, ◌≤◌, ◌<◌};
-ghost use Rattle.coord_decide.specs.Deciding.{answers, tallied, apart, decided_read, decided_block_order, decided_at, decided};
-ghost use Rattle.coord_tally.specs.Counting.{highest};
-ghost use Rattle.settings.specs.Count.{one_if};
+ghost use Rattle.coord_decide.specs.Deciding.{answers, tallied, apart, decided_read, decided_block_order, decided_at, decided_recovery, decided};
+ghost use Rattle.coord_record.specs.Records.{target_count};
+ghost use Rattle.byte_lists.specs.Each.{some};
+ghost use Rattle.coord_tally.specs.Counting.{highest, said_no};
 ghost use Rattle.settings.specs.Ranges.{max_bricks};
 
 use coord_record::{Op, Tally};
@@ -31,170 +32,151 @@ pub enum Decision {
     Finish,
 }
 
-// 1 for true.
-fn flag_of(x: bool) -> u8
-    ensures { result ≡ one_if x }
-{
-    if x {
-        return 1;
-    }
-    0
-}
-
 // The tally with a reply counted.
+#[tactic(auto, unfolding(crate::specs::Deciding::tallied, settings::specs::Count::one_if))]
 pub fn tally_with(t: Tally, reply: Reply) -> Tally
     requires { reply.brick < max_bricks }
     ensures { result ≡ tallied t reply }
 {
+    let mut next = t;
     let b = reply.brick;
-    let mut counted = t.counted;
-    let mut granted = t.granted;
-    let mut held = t.held;
-    let mut found = t.found;
-    let mut said = t.said;
-    counted[b] = 1;
-    granted[b] = flag_of(reply.yes);
-    held[b] = flag_of(reply.held);
-    found[b] = reply.found;
-    said[b] = reply.comparison;
-    Tally {
-        counted,
-        granted,
-        held,
-        found,
-        said,
-    }
+    next.counted[b] = 1;
+    next.granted[b] = u8::from(reply.yes);
+    next.held[b] = u8::from(reply.held);
+    next.found[b] = reply.found;
+    next.said[b] = reply.comparison;
+    next
 }
 
 // Whether a reply is of the running operation, its stripe and round, of a brick not counted, with a block by the round's rules.
+#[tactic(auto, unfolding(crate::specs::Deciding::answers, message::specs::Flags::member))]
 pub fn reply_answers(n: usize, m: usize, op: Op, t: Tally, reply: Reply) -> bool
     requires first_le_n { op.first ≤ n }
     requires brick_lt_max_bricks { reply.brick < max_bricks }
     ensures { result ≡ answers n m op t reply }
 {
-    let b = reply.brick;
-    let counted = t.counted;
-    if reply.kind != op.phase {
-        return false;
-    }
-    if reply.stripe != op.stripe {
-        return false;
-    }
-    if reply.time != op.time {
-        return false;
-    }
-    if reply.round != op.round {
-        return false;
-    }
-    if counted[b] == 1 {
-        return false;
-    }
     let targets = coord_record::target_count(m, op.kind);
-    let target = coord_record::is_target(n, targets, op.first, b);
-    coord_record::block_right(op.phase, target, reply.yes, reply.held, reply.found)
+    let target = coord_record::is_target(n, targets, op.first, reply.brick);
+    reply.kind == op.phase
+        && reply.stripe == op.stripe
+        && reply.time == op.time
+        && reply.round == op.round
+        && t.counted[reply.brick] != 1
+        && coord_record::block_right(op.phase, target, reply.yes, reply.held, reply.found)
 }
 
 // "Recovery: Order-and-read with max 2^44": the first recovery round has no upper end.
 const FIRST_MAX: u64 = settings::NO_UPPER_END;
 
-// Whether the counted replies differ in their newest times, or one of the targets is not among them.
-fn times_apart(n: usize, targets: usize, op: Op, t: Tally, newest: u64) -> bool
-    requires n_le_max_bricks { n ≤ max_bricks }
-    requires first_lt_n { op.first < n }
-    requires newest_value { newest ≡ highest t.counted t.found n }
-    ensures { result ≡ apart n targets op t }
-{
-    let counted = t.counted;
-    let found = t.found;
-    if any_other(counted, found, newest, n) {
-        return true;
-    }
-    any_missing(n, targets, op.first, counted)
+// A round that q replies ended: n bricks, m data blocks, the operation, the replies counted.
+#[derive(Clone, Copy)]
+struct Round {
+    n: usize,
+    m: usize,
+    op: Op,
+    tally: Tally,
+    ghost few: { n ≤ max_bricks },
+    ghost first_low: { op.first < n },
 }
 
-// What the q-th reply of a Read round decides: a no does not abort it, the read recovers.
-fn decide_read(n: usize, m: usize, op: Op, t: Tally) -> Decision
-    requires n_le_max_bricks { n ≤ max_bricks }
-    requires first_lt_n { op.first < n }
-    ensures { result ≡ decided_read n m op t }
-{
-    let counted = t.counted;
-    let granted = t.granted;
-    let found = t.found;
-    let newest = highest_of(counted, found, n);
-    if times_apart(n, coord_record::target_count(m, op.kind), op, t, newest) {
-        return Decision::Look(FIRST_MAX);
+impl Round {
+    // The newest time of the counted replies.
+    fn newest(self) -> u64
+        ensures { result ≡ highest self.tally.counted self.tally.found self.n }
+    {
+        highest_of(self.tally.counted, self.tally.found, self.n)
     }
-    if any_no(counted, granted, n) {} else {
-        return Decision::Give;
-    }
-    Decision::Look(FIRST_MAX)
-}
 
-// What the q-th reply of a block write's first round decides, where none said no.
-fn decide_block_order(n: usize, m: usize, op: Op, t: Tally) -> Decision
-    requires n_le_max_bricks { n ≤ max_bricks }
-    requires first_lt_n { op.first < n }
-    ensures { result ≡ decided_block_order n m op t }
-{
-    let counted = t.counted;
-    let found = t.found;
-    let old = highest_of(counted, found, n);
-    if times_apart(n, coord_record::target_count(m, op.kind), op, t, old) {
-        return Decision::Look(FIRST_MAX);
+    // Whether a counted reply said no.
+    fn said_no(self) -> bool
+        ensures { result ≡ some (said_no self.tally.counted self.tally.granted) self.n }
+    {
+        any_no(self.tally.counted, self.tally.granted, self.n)
     }
-    Decision::Modify(old)
-}
 
-// What the q-th reply of an Order-and-read round decides, where a block is held and this is the highest time found.
-fn decide_at(n: usize, m: usize, round: u64, t: Tally, time: u64) -> Decision
-    requires { n ≤ max_bricks }
-    ensures { result ≡ decided_at n m round t time }
-{
-    let held = t.held;
-    let found = t.found;
-    if m <= count_at(held, found, time, n) {
-        if round < message::LAST_ROUND {
+    // Whether the counted replies differ in their newest times, or one of the targets is not among them.
+    #[tactic(auto, unfolding(crate::specs::Deciding::apart))]
+    fn times_apart(self) -> bool
+        ensures { result ≡ apart self.n (target_count self.m self.op.kind) self.op self.tally }
+    {
+        let Round { n, m, op, tally } = self;
+        let targets = coord_record::target_count(m, op.kind);
+        any_other(tally.counted, tally.found, self.newest(), n)
+            || any_missing(n, targets, op.first, tally.counted)
+    }
+
+    // What the q-th reply of a Read round decides: a no does not abort it, the read recovers.
+    #[tactic(auto, unfolding(crate::specs::Deciding::decided_read, settings::specs::Times::no_upper_end))]
+    fn decide_read(self) -> Decision
+        ensures { result ≡ decided_read self.n self.m self.op self.tally }
+    {
+        if self.said_no() || self.times_apart() {
+            return Decision::Look(FIRST_MAX);
+        }
+        Decision::Give
+    }
+
+    // What the q-th reply of a block write's first round decides, where none said no.
+    #[tactic(auto, unfolding(crate::specs::Deciding::decided_block_order, settings::specs::Times::no_upper_end))]
+    fn decide_block_order(self) -> Decision
+        ensures { result ≡ decided_block_order self.n self.m self.op self.tally }
+    {
+        if self.times_apart() {
+            return Decision::Look(FIRST_MAX);
+        }
+        Decision::Modify(self.newest())
+    }
+
+    // What the q-th reply of an Order-and-read round decides, where a block is held and this is the highest time found.
+    #[tactic(auto, unfolding(crate::specs::Deciding::decided_at, crate::specs::Deciding::unless_spent))]
+    fn decide_at(self, time: u64) -> Decision
+        ensures { result ≡ decided_at self.n self.m self.op.round self.tally time }
+    {
+        if message::LAST_ROUND <= self.op.round {
+            return Decision::Abort;
+        }
+        if self.m <= count_at(self.tally.held, self.tally.found, time, self.n) {
             return Decision::Recover(time);
         }
-        return Decision::Abort;
+        if time == 0 {
+            return Decision::Abort;
+        }
+        Decision::Look(time)
     }
-    if time == 0 {
-        return Decision::Abort;
+
+    // What the q-th reply of an Order-and-read round decides, where none said no.
+    #[tactic(auto, unfolding(crate::specs::Deciding::decided_recovery))]
+    fn decide_recovery(self) -> Decision
+        ensures { result ≡ decided_recovery self.n self.m self.op self.tally }
+    {
+        let Tally { held, found, .. } = self.tally;
+        match message::members_of(held, self.n) {
+            0 => Decision::Abort,
+            _ => self.decide_at(highest_of(held, found, self.n)),
+        }
     }
-    if message::LAST_ROUND <= round {
-        return Decision::Abort;
+
+    // What the q-th reply decides.
+    #[tactic(auto, unfolding(crate::specs::Deciding::decided))]
+    fn decide(self) -> Decision
+        ensures { result ≡ decided self.n self.m self.op self.tally }
+    {
+        match self.op.phase {
+            READ => self.decide_read(),
+            _ if self.said_no() => Decision::Abort,
+            ORDER => Decision::Store,
+            ORDER_BLOCK => self.decide_block_order(),
+            ORDER_READ => self.decide_recovery(),
+            _ => Decision::Finish,
+        }
     }
-    Decision::Look(time)
 }
 
 // What the q-th reply of a round decides.
-pub fn decide(n: usize, m: usize, op: Op, t: Tally) -> Decision
+pub fn decide(n: usize, m: usize, op: Op, tally: Tally) -> Decision
     requires n_le_max_bricks { n ≤ max_bricks }
     requires first_lt_n { op.first < n }
-    ensures { result ≡ decided n m op t }
+    ensures { result ≡ decided n m op tally }
 {
-    if op.phase == READ {
-        return decide_read(n, m, op, t);
-    }
-    let counted = t.counted;
-    let granted = t.granted;
-    if any_no(counted, granted, n) {
-        return Decision::Abort;
-    }
-    if op.phase == ORDER {
-        return Decision::Store;
-    }
-    if op.phase == ORDER_BLOCK {
-        return decide_block_order(n, m, op, t);
-    }
-    if op.phase == ORDER_READ {
-        let held = t.held;
-        let found = t.found;
-        if message::members_of(held, n) == 0 {
-            return Decision::Abort;
-        }
-        return decide_at(n, m, op.round, t, highest_of(held, found, n));
-    }
-    Decision::Finish
+    Round { n, m, op, tally }.decide()
 }

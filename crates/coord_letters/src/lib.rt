@@ -9,8 +9,8 @@ ghost use Rattle.message.specs.Kinds.{full_log};
 ghost use Rattle.settings.specs.Ranges.{max_bricks};
 
 use coord_record::{Op, Tally};
-use settings::MAX_BRICKS;
 
+// stays: bytes and no enum, as the bench prints them and `Notice::letter` holds them: `Letters` and the theorems over runs read numbers.
 pub const NO_LETTER: u8 = 0;
 
 // Read in one round.
@@ -41,67 +41,47 @@ pub const X: u8 = b'X';
 pub const C: u8 = b'C';
 
 // The letter of a read that gave an answer.
+#[tactic(auto, unfolding(crate::specs::Letters::read_letter))]
 pub fn read_letter(op: Op) -> u8
     ensures { result ≡ read_letter op }
 {
     if op.phase == message::READ {
-        return F;
+        F
+    } else if op.round == message::THIRD_ROUND {
+        H
+    } else {
+        L
     }
-    if op.round == message::THIRD_ROUND {
-        return H;
-    }
-    L
 }
 
 // Whether a brick is counted and said no by another comparison than that of a full log.
 fn other_no(counted: u8, granted: u8, said: u8) -> bool
     ensures { result ≡ (eqb counted 1 && not (eqb granted 1)) && not (eqb said full_log) }
 {
-    if counted == 1 {
-        if granted == 1 {
-            return false;
-        }
-        return said != message::FULL_LOG;
-    }
-    false
+    counted == 1 && granted != 1 && said != message::FULL_LOG
 }
 
 // Whether a counted no below n was not that of a full log.
-fn any_other_no(
-    counted: [u8; MAX_BRICKS],
-    granted: [u8; MAX_BRICKS],
-    said: [u8; MAX_BRICKS],
-    n: usize,
-) -> bool
+fn any_other_no(t: Tally, n: usize) -> bool
     requires { n ≤ max_bricks }
-    ensures { result ≡ some (said_other counted granted said) n }
+    ensures { result ≡ some (said_other t.counted t.granted t.said) n }
 {
-    let mut b = 0;
-    while b < n {
-        if other_no(counted[b], granted[b], said[b]) {
-            return true;
-        }
-        b += 1;
-    }
-    false
+    (0..n).any(|b| other_no(t.counted[b], t.granted[b], t.said[b]))
 }
 
 // The letter of an abort.
+#[tactic(auto, unfolding(crate::specs::Letters::abort_letter))]
 pub fn abort_letter(n: usize, op: Op, t: Tally) -> u8
     requires { n ≤ max_bricks }
     ensures { result ≡ abort_letter n op t }
 {
-    let counted = t.counted;
-    let granted = t.granted;
-    if coord_tally::any_no(counted, granted, n) {} else {
-        return X;
+    if !coord_tally::any_no(t.counted, t.granted, n) {
+        X
+    } else if !message::stores_entry(op.phase) {
+        O
+    } else if any_other_no(t, n) {
+        W
+    } else {
+        G
     }
-    if message::stores_entry(op.phase) {} else {
-        return O;
-    }
-    let said = t.said;
-    if any_other_no(counted, granted, said, n) {
-        return W;
-    }
-    G
 }

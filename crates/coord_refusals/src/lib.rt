@@ -2,288 +2,225 @@
 // inner: call `coordinator::take_reply`
 #![tactic(auto)]
 
-ghost use Rattle.std.specs.Prelude.{◌≡◌, true, [], ◌∷◌, ◌*◌, ◌≤◌, ◌<◌};
-ghost use Rattle.coord_refusals.specs.Checks.{record_checks, stripe_checks, write_checks, read_checks, lengths_right, stray_checks};
+ghost use Rattle.std.specs.Prelude.{◌≡◌, IfOk, [], ◌∷◌, ◌*◌, ◌<◌, leb};
+ghost use Rattle.coord_refusals.specs.Checks.{stripe_checks, write_checks, read_checks, lengths_right, stray_checks};
 ghost use Rattle.coord_refusals.specs.Checks.{take_refusal, crash_refusal};
 ghost use Rattle.coord_refusals.specs.Checks.{block_checks, read_block_checks, write_block_checks};
-ghost use Rattle.settings.specs.Ranges.{CodeRange, max_bricks, code_refusal, stripe_count_refusal};
-ghost use Rattle.settings.specs.Refusal.{first_refusal};
+ghost use Rattle.coord_record.specs.Sound.{sound_record};
+ghost use Rattle.settings.specs.Ranges.{code_refusal, stripe_count_refusal};
+ghost use Rattle.settings.specs.Refusal.{first_refusal, refusal_in, number_of_refusal, refuse_unless, bad_number, bad_record};
+ghost use Rattle.settings.specs.Times.{last_coordinator};
 
-use coord_record::Coordinator;
+use coord_record::{Coordinator, Geometry};
 use message::Reply;
-use settings::{BAD_LENGTH, BAD_NUMBER, BAD_RECORD, STRAY_REPLY};
+use settings::{Code, Refusal};
 
-// 1 where n, m, the block size or the stripe count is outside its range, else 0.
-fn volume_refusal(n: usize, m: usize, size: usize, stripes: usize) -> u32
-    ensures { result ≡ first_refusal (code_refusal n m size ∷ stripe_count_refusal stripes ∷ []) }
+// The refusal given, unless a test holds.
+fn refuse_unless(holds: bool, refusal: Refusal) -> Result<(), Refusal>
+    ensures { refusal_in result ≡ refuse_unless holds (number_of_refusal refusal) }
 {
-    let bad = settings::code_refusal(n, m, size);
-    if bad != 0 {
-        return bad;
-    }
-    settings::stripe_count_refusal(stripes)
+    if holds { Ok(()) } else { Err(refusal) }
 }
 
-// 3 for a coordinator number above 15, 6 for a record that is not sound, else 0.
-fn record_refusal(n: usize, m: usize, size: usize, stripes: usize, c: Coordinator) -> u32
-    requires { n ≤ max_bricks }
-    ensures { result ≡ first_refusal (record_checks n m size stripes c []) }
+// The code of a volume; 1 where n, m, the block size or the stripe count is outside its range.
+#[tactic(auto, using(crate::proofs::Laws::RefusedLaws::checks))]
+fn check_volume(volume: Geometry) -> Result<Code, Refusal>
+    ensures value { refusal_in result ≡ first_refusal (code_refusal volume.n volume.m volume.size ∷ stripe_count_refusal volume.stripes ∷ []) }
+    ensures code { IfOk result (λ (code : Code). (code.n ≡ volume.n) × (code.m ≡ volume.m) × (code.size ≡ volume.size)) }
 {
-    let clock = c.clock;
-    if settings::LAST_COORDINATOR < clock.coordinator {
-        return BAD_NUMBER;
-    }
-    if c.sound(n, m, size, stripes) {
-        return 0;
-    }
-    BAD_RECORD
+    let code = Code::new(volume.n, volume.m, volume.size)?;
+    settings::check_stripe_count(volume.stripes)?;
+    Ok(code)
 }
 
-// 3 for a coordinator number above 15, 13 for a stripe that the volume does not have, 6 for a record that is not sound, else 0.
-fn stripe_refusal(
-    n: usize,
-    m: usize,
-    size: usize,
+// 3 for a coordinator number above 15.
+fn check_number(c: Coordinator) -> Result<(), Refusal>
+    ensures { refusal_in result ≡ refuse_unless (leb c.clock.coordinator last_coordinator) bad_number }
+{
+    refuse_unless(
+        c.clock.coordinator <= settings::LAST_COORDINATOR,
+        Refusal::BadNumber,
+    )
+}
+
+// 6 for a record that is not sound.
+fn check_sound(code: Code, stripes: usize, c: Coordinator) -> Result<(), Refusal>
+    ensures { refusal_in result ≡ refuse_unless (sound_record code.n code.m code.size stripes c) bad_record }
+{
+    refuse_unless(
+        c.sound(Geometry {
+            n: code.n,
+            m: code.m,
+            size: code.size,
+            stripes,
+        }),
+        Refusal::BadRecord,
+    )
+}
+
+// 3 for a coordinator number above 15, 13 for a stripe that the volume does not have, 6 for a record that is not sound.
+#[tactic(auto, unfolding(crate::specs::Checks::stripe_checks), using(crate::proofs::Laws::RefusedLaws::checks))]
+fn check_stripe(
+    code: Code,
     stripes: usize,
     c: Coordinator,
     stripe_number: usize,
-) -> u32
-    requires { n ≤ max_bricks }
-    ensures { result ≡ first_refusal (stripe_checks n m size stripes c stripe_number []) }
+) -> Result<(), Refusal>
+    ensures { refusal_in result ≡ first_refusal (stripe_checks code.n code.m code.size stripes c stripe_number []) }
 {
-    let clock = c.clock;
-    if settings::LAST_COORDINATOR < clock.coordinator {
-        return BAD_NUMBER;
-    }
-    let outside = settings::stripe_refusal(stripes, stripe_number);
-    if outside != 0 {
-        return outside;
-    }
-    if c.sound(n, m, size, stripes) {
-        return 0;
-    }
-    BAD_RECORD
-}
-
-// The refusal of a write before its time is drawn, 0 for none: bytes and stripe are lengths.
-pub fn write_refusal(
-    n: usize,
-    m: usize,
-    size: usize,
-    stripes: usize,
-    c: Coordinator,
-    stripe_number: usize,
-    bytes: usize,
-    stripe: usize,
-) -> u32
-    ensures { result ≡ first_refusal (write_checks n m size stripes c stripe_number bytes stripe []) }
-{
-    let bad = volume_refusal(n, m, size, stripes);
-    if bad != 0 {
-        return bad;
-    }
-    if bytes != m * size {
-        return BAD_LENGTH;
-    }
-    if stripe != m * size {
-        return BAD_LENGTH;
-    }
-    stripe_refusal(n, m, size, stripes, c, stripe_number)
-}
-
-// The refusal of a read before its time is drawn, 0 for none.
-pub fn read_refusal(
-    n: usize,
-    m: usize,
-    size: usize,
-    stripes: usize,
-    c: Coordinator,
-    stripe_number: usize,
-    first: usize,
-) -> u32
-    ensures { result ≡ first_refusal (read_checks n m size stripes c stripe_number first []) }
-{
-    let bad = volume_refusal(n, m, size, stripes);
-    if bad != 0 {
-        return bad;
-    }
-    if n <= first {
-        return BAD_NUMBER;
-    }
-    stripe_refusal(n, m, size, stripes, c, stripe_number)
+    check_number(c)?;
+    settings::check_stripe(stripes, stripe_number)?;
+    check_sound(code, stripes, c)
 }
 
 // 3 for a coordinator number above 15, 13 for a stripe that the volume does not have, 14 for a data block that the stripe does not have,
-// 6 for a record that is not sound, else 0.
-fn block_refusal(
-    n: usize,
-    m: usize,
-    size: usize,
+// 6 for a record that is not sound.
+#[tactic(auto, unfolding(crate::specs::Checks::block_checks), using(crate::proofs::Laws::RefusedLaws::checks))]
+fn check_block(
+    code: Code,
     stripes: usize,
     c: Coordinator,
     stripe_number: usize,
     block: usize,
-) -> u32
-    requires { n ≤ max_bricks }
-    ensures { result ≡ first_refusal (block_checks n m size stripes c stripe_number block []) }
+) -> Result<(), Refusal>
+    ensures { refusal_in result ≡ first_refusal (block_checks code.n code.m code.size stripes c stripe_number block []) }
 {
-    let clock = c.clock;
-    if settings::LAST_COORDINATOR < clock.coordinator {
-        return BAD_NUMBER;
-    }
-    let past = settings::stripe_refusal(stripes, stripe_number);
-    if past != 0 {
-        return past;
-    }
-    let missing = settings::data_block_refusal(m, block);
-    if missing != 0 {
-        return missing;
-    }
-    if c.sound(n, m, size, stripes) {
-        return 0;
-    }
-    BAD_RECORD
+    check_number(c)?;
+    settings::check_stripe(stripes, stripe_number)?;
+    settings::check_data_block(code.m, block)?;
+    check_sound(code, stripes, c)
 }
 
-// The refusal of a read of one block before its time is drawn, 0 for none.
-pub fn read_block_refusal(
-    n: usize,
-    m: usize,
-    size: usize,
-    stripes: usize,
+// What refuses a write before its time is drawn: bytes and stripe are lengths.
+#[tactic(auto, unfolding(crate::specs::Checks::write_checks), using(crate::proofs::Laws::RefusedLaws::checks))]
+pub fn check_write(
+    volume: Geometry,
+    c: Coordinator,
+    stripe_number: usize,
+    bytes: usize,
+    stripe: usize,
+) -> Result<(), Refusal>
+    ensures { refusal_in result ≡ first_refusal (write_checks volume.n volume.m volume.size volume.stripes c stripe_number bytes stripe []) }
+{
+    let code = check_volume(volume)?;
+    let data = code.m * code.size;
+    refuse_unless(bytes == data && stripe == data, Refusal::BadLength)?;
+    check_stripe(code, volume.stripes, c, stripe_number)
+}
+
+// What refuses a read before its time is drawn; else the volume's code.
+#[tactic(auto, unfolding(crate::specs::Checks::read_checks), using(crate::proofs::Laws::RefusedLaws::checks))]
+pub fn check_read(
+    volume: Geometry,
+    c: Coordinator,
+    stripe_number: usize,
+    first: usize,
+) -> Result<Code, Refusal>
+    ensures value { refusal_in result ≡ first_refusal (read_checks volume.n volume.m volume.size volume.stripes c stripe_number first []) }
+    ensures code { IfOk result (λ (code : Code). (code.n ≡ volume.n) × (code.m ≡ volume.m) × (code.size ≡ volume.size)) }
+{
+    let code = check_volume(volume)?;
+    refuse_unless(first < code.n, Refusal::BadNumber)?;
+    check_stripe(code, volume.stripes, c, stripe_number)?;
+    Ok(code)
+}
+
+// What refuses a read of one block before its time is drawn; else the volume's code.
+#[tactic(auto, unfolding(crate::specs::Checks::read_block_checks), using(crate::proofs::Laws::RefusedLaws::checks))]
+pub fn check_read_block(
+    volume: Geometry,
     c: Coordinator,
     stripe_number: usize,
     block: usize,
-) -> u32
-    ensures { result ≡ first_refusal (read_block_checks n m size stripes c stripe_number block []) }
+) -> Result<Code, Refusal>
+    ensures value { refusal_in result ≡ first_refusal (read_block_checks volume.n volume.m volume.size volume.stripes c stripe_number block []) }
+    ensures code { IfOk result (λ (code : Code). (code.n ≡ volume.n) × (code.m ≡ volume.m) × (code.size ≡ volume.size)) }
 {
-    let bad = volume_refusal(n, m, size, stripes);
-    if bad != 0 {
-        return bad;
-    }
-    block_refusal(n, m, size, stripes, c, stripe_number, block)
+    let code = check_volume(volume)?;
+    check_block(code, volume.stripes, c, stripe_number, block)?;
+    Ok(code)
 }
 
-// The refusal of a write of one block before its time is drawn, 0 for none: bytes and stripe are lengths.
-pub fn write_block_refusal(
-    n: usize,
-    m: usize,
-    size: usize,
-    stripes: usize,
+// What refuses a write of one block before its time is drawn: bytes and stripe are lengths.
+#[tactic(auto, unfolding(crate::specs::Checks::write_block_checks), using(crate::proofs::Laws::RefusedLaws::checks))]
+pub fn check_write_block(
+    volume: Geometry,
     c: Coordinator,
     stripe_number: usize,
     block: usize,
     bytes: usize,
     stripe: usize,
-) -> u32
-    ensures { result ≡ first_refusal (write_block_checks n m size stripes c stripe_number block bytes stripe []) }
+) -> Result<(), Refusal>
+    ensures { refusal_in result ≡ first_refusal (write_block_checks volume.n volume.m volume.size volume.stripes c stripe_number block bytes stripe []) }
 {
-    let bad = volume_refusal(n, m, size, stripes);
-    if bad != 0 {
-        return bad;
-    }
-    if bytes != size {
-        return BAD_LENGTH;
-    }
-    if stripe != m * size {
-        return BAD_LENGTH;
-    }
-    block_refusal(n, m, size, stripes, c, stripe_number, block)
+    let code = check_volume(volume)?;
+    refuse_unless(
+        bytes == code.size && stripe == code.m * code.size,
+        Refusal::BadLength,
+    )?;
+    check_block(code, volume.stripes, c, stripe_number, block)
 }
 
-// Whether the lent buffers of a reply have the lengths that the settings require.
+// Whether the lent buffers of a reply have the lengths that the code requires.
+#[tactic(auto, unfolding(crate::specs::Checks::lengths_right), using(std::proofs::lemmas::Bool::Decides::nat_tests))]
 fn lengths_right(
-    n: usize,
-    m: usize,
-    size: usize,
+    code: Code,
     held: bool,
     block: usize,
     blocks: usize,
     stripe: usize,
     coded: usize,
 ) -> bool
-    requires { CodeRange n m size }
-    ensures { result ≡ lengths_right n m size held block blocks stripe coded }
+    ensures { result ≡ lengths_right code.n code.m code.size held block blocks stripe coded }
 {
-    if blocks != n * size {
-        return false;
-    }
-    if stripe != m * size {
-        return false;
-    }
-    if coded != n * size {
-        return false;
-    }
-    if held {
-        return block == size;
-    }
-    true
+    let all = code.n * code.size;
+    blocks == all && stripe == code.m * code.size && coded == all && (!held || block == code.size)
 }
 
-// The refusal of a reply, 0 for none: block, blocks, stripe and coded are lengths.
-pub fn take_refusal(
-    n: usize,
-    m: usize,
-    size: usize,
-    stripes: usize,
+// What refuses a reply; else the volume's code: block, blocks, stripe and coded are lengths.
+#[tactic(auto, unfolding(crate::specs::Checks::take_refusal), using(crate::proofs::Laws::RefusedLaws::checks))]
+pub fn check_take(
+    volume: Geometry,
     c: Coordinator,
     reply: Reply,
     block: usize,
     blocks: usize,
     stripe: usize,
     coded: usize,
-) -> u32
-    ensures { result ≡ take_refusal n m size stripes c reply block blocks stripe coded }
+) -> Result<Code, Refusal>
+    ensures value { refusal_in result ≡ take_refusal volume.n volume.m volume.size volume.stripes c reply block blocks stripe coded }
+    ensures code { IfOk result (λ (code : Code). (code.n ≡ volume.n) × (code.m ≡ volume.m) × (code.size ≡ volume.size)) }
 {
-    let bad = volume_refusal(n, m, size, stripes);
-    if bad != 0 {
-        return bad;
-    }
-    if lengths_right(n, m, size, reply.held, block, blocks, stripe, coded) {} else {
-        return BAD_LENGTH;
-    }
-    if n <= reply.brick {
-        return BAD_NUMBER;
-    }
-    stray_refusal(n, m, size, stripes, c, reply)
+    let code = check_volume(volume)?;
+    refuse_unless(
+        lengths_right(code, reply.held, block, blocks, stripe, coded),
+        Refusal::BadLength,
+    )?;
+    refuse_unless(reply.brick < code.n, Refusal::BadNumber)?;
+    check_stray(code, volume.stripes, c, reply)?;
+    Ok(code)
 }
 
-// The refusal of a reply of a brick below n.
-fn stray_refusal(
-    n: usize,
-    m: usize,
-    size: usize,
-    stripes: usize,
-    c: Coordinator,
-    reply: Reply,
-) -> u32
-    requires n_le_max_bricks { n ≤ max_bricks }
-    requires brick_lt_n { reply.brick < n }
-    ensures { result ≡ first_refusal (stray_checks n m size stripes c reply) }
+// What refuses a reply of a brick below n.
+#[tactic(auto, unfolding(crate::specs::Checks::stray_checks, crate::specs::Checks::stripe_checks), using(crate::proofs::Laws::RefusedLaws::stray))]
+fn check_stray(code: Code, stripes: usize, c: Coordinator, reply: Reply) -> Result<(), Refusal>
+    requires { reply.brick < code.n }
+    ensures { refusal_in result ≡ first_refusal (stray_checks code.n code.m code.size stripes c reply) }
 {
-    let broken = stripe_refusal(n, m, size, stripes, c, reply.stripe);
-    if broken != 0 {
-        return broken;
-    }
-    let wrong = reply.refusal(n);
-    if wrong != 0 {
-        return wrong;
-    }
-    let op = c.op;
-    let tally = c.tally;
-    if coord_decide::reply_answers(n, m, op, tally, reply) {
-        return 0;
-    }
-    STRAY_REPLY
+    check_stripe(code, stripes, c, reply.stripe)?;
+    reply.check(code.n)?;
+    refuse_unless(
+        coord_decide::reply_answers(code.n, code.m, c.op, c.tally, reply),
+        Refusal::StrayReply,
+    )
 }
 
-// The refusal of a crash, 0 for none.
-pub fn crash_refusal(n: usize, m: usize, size: usize, stripes: usize, c: Coordinator) -> u32
-    ensures { result ≡ crash_refusal n m size stripes c }
+// What refuses a crash.
+#[tactic(auto, unfolding(crate::specs::Checks::crash_refusal, crate::specs::Checks::record_checks), using(crate::proofs::Laws::RefusedLaws::checks))]
+pub fn check_crash(volume: Geometry, c: Coordinator) -> Result<(), Refusal>
+    ensures { refusal_in result ≡ crash_refusal volume.n volume.m volume.size volume.stripes c }
 {
-    let bad = volume_refusal(n, m, size, stripes);
-    if bad != 0 {
-        return bad;
-    }
-    record_refusal(n, m, size, stripes, c)
+    let code = check_volume(volume)?;
+    check_number(c)?;
+    check_sound(code, volume.stripes, c)
 }

@@ -12,8 +12,8 @@ use Rattle.message.specs.Kinds.{read_kind, order_kind, order_block_kind, block_t
 use Rattle.message.specs.declared.Reply.{Reply}
 use Rattle.settings.specs.Times.{draw_of}
 use Rattle.settings.specs.declared.Clock.{Clock}
-use Rattle.settings.specs.declared.Draw.{Draw}
-use Rattle.settings.specs.declared.Draw.TheVariants.{Drawn, Refused}
+use Rattle.settings.specs.Times.{Draw}
+use Rattle.settings.specs.Times.{Drawn, Refused}
 
 -- a reply reaches the coordinator
 unfoldable pub take_step : (n m size stripes : ℕ) → Buffered → Reply → List ℕ → ℕ → Step

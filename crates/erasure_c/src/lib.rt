@@ -16,7 +16,7 @@ pub extern "C" fn stripe_encode(
     ensures value { result ≡ encode_refusal n m size (length «data».now) (length coded.old) }
     ensures coded_after { coded.new ≡ encoded_buffer n m size «data».now coded.old }
 {
-    erasure::stripe_encode(n, m, size, data, coded)
+    settings::number_of(erasure::stripe_encode(n, m, size, data, coded))
 }
 
 // Decodes from the blocks of m or more bricks, or gives the number of the refusal and leaves the buffer.
@@ -33,5 +33,5 @@ pub extern "C" fn stripe_decode(
     ensures data_after { «data».new ≡ decoded_buffer n m size bricks.now blocks.now «data».old }
     ensures decoded_by_polynomials { DecodedByPolynomials n m size bricks.now blocks.now «data».old result «data».new }
 {
-    erasure::stripe_decode(n, m, size, bricks, blocks, data)
+    settings::number_of(erasure::stripe_decode(n, m, size, bricks, blocks, data))
 }

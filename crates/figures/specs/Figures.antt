@@ -14,10 +14,10 @@ use Rattle.settings.specs.Ranges.{quorum, settings_refusal}
 use Rattle.settings.specs.Refusal.{passed, bad_setting, bad_reading, bad_stripe, bad_brick_set, blocks_disagree}
 use Rattle.settings.specs.Times.{draw_of}
 use Rattle.volume.specs.ClientPlaces.{place_of}
-use Rattle.volume.specs.declared.Placed.{Placed}
-use Rattle.volume.specs.declared.Placed.TheVariants.{At}
-use Rattle.settings.specs.declared.Draw.{Draw}
-use Rattle.settings.specs.declared.Draw.TheVariants.{Drawn, Refused}
+use Rattle.volume.specs.ClientPlaces.{Placed}
+use Rattle.volume.specs.ClientPlaces.{At}
+use Rattle.settings.specs.Times.{Draw}
+use Rattle.settings.specs.Times.{Drawn, Refused}
 use Rattle.settings.specs.declared.Settings.{Settings}
 
 -- What a figure tells: a number, bytes, a time, that something passes, or that it is refused with a number.

@@ -11,8 +11,8 @@ use Rattle.image.specs.Brick.{Brick, entry_count, time_at, mark_at}
 use Rattle.image.specs.Parse.{Parsed, Opens, Refuses, parse}
 use Rattle.brick_log.specs.BrickRules.{time_for, block_after}
 use Rattle.brick.specs.Receive.{Outcome}
-use Rattle.brick.specs.declared.Given.{Given}
-use Rattle.brick.specs.declared.Given.TheVariants.{Answered, Silent, Refused}
+use Rattle.brick.specs.Receive.{Given}
+use Rattle.brick.specs.Receive.{Answered, Silent, Refused}
 use Rattle.volume.specs.Rows.{image_at, row_outcome}
 use Rattle.order.specs.Claim.{read, write_block, ok, bytes, finished, Seen}
 use Rattle.register.specs.Runs.{Item, message, reply, World, Event, start_write, start_read, start_write_block, start_read_block, arrives}

@@ -4,13 +4,16 @@
 
 ghost use Rattle.std.specs.Prelude.{◌≡◌, ◌≤◌, get_or};
 ghost use Rattle.gf256.specs.Product.{product, inverse, quotient};
-ghost use Rattle.gf256.specs.Tables.{IsPowers, IsLogs};
+ghost use Rattle.gf256.specs.Tables.{IsPowers, IsLogs, doublings};
 ghost use Rattle.gf256.specs.LogSums.{log_sum, max_log_sum, folded, product_in, sum_bits};
 
 // The bytes, and the powers of 2 among them: all but 0.
 pub const BYTE_COUNT: usize = 256;
 
 pub const POWER_COUNT: usize = 255;
+
+// The bits of a byte.
+const BITS: usize = 8;
 
 // The same for a sum of logarithms, which 16 bits hold: 2 to the 255 is 1 again.
 const CYCLE: u16 = POWER_COUNT as u16;
@@ -50,30 +53,22 @@ const LOGS: [u8; BYTE_COUNT] = [
     168, 80, 88, 175,
 ];
 
-// The table of powers, for a caller that lends it to many products: a constant array is built anew in each function that names it.
+// The table of powers.
 pub fn powers() -> [u8; POWER_COUNT]
     ensures { IsPowers result }
 {
     POWERS
 }
 
-// The table of logarithms, to be lent likewise.
+// The table of logarithms.
 pub fn logs() -> [u8; BYTE_COUNT]
     ensures { IsLogs result }
 {
     LOGS
 }
 
-// The sum of two bytes' logarithms, in 16 bits.
-fn log_sum(logs: &[u8; BYTE_COUNT], a: u8, b: u8) -> u16
-    requires { IsLogs logs.now }
-    ensures value { result ≡ log_sum logs.now a b }
-    ensures upper_bound { result ≤ max_log_sum }
-{
-    logs[a as usize] as u16 + logs[b as usize] as u16
-}
-
 // The power at a sum of two logarithms: from 255 on that at 255 less.
+#[tactic(auto, unfolding(crate::specs::LogSums::folded))]
 fn power_at(powers: &[u8; POWER_COUNT], sum: u16) -> u8
     requires { sum ≤ max_log_sum }
     ensures { result ≡ get_or powers.now (folded sum) 0 }
@@ -84,58 +79,123 @@ fn power_at(powers: &[u8; POWER_COUNT], sum: u16) -> u8
     powers[sum as usize - POWER_COUNT]
 }
 
-// The product by lent tables: two loads, a sum in 16 bits, a load.
-pub fn mul_by(powers: &[u8; POWER_COUNT], logs: &[u8; BYTE_COUNT], a: u8, b: u8) -> u8
-    requires powers { IsPowers powers.now }
-    requires logs { IsLogs logs.now }
-    ensures value { result ≡ product a b }
-    ensures value_2 { result ≡ product_in sum_bits powers.now logs.now a b }
-{
-    if a == 0 {
-        return 0;
-    }
-    if b == 0 {
-        return 0;
-    }
-    power_at(powers, log_sum(logs, a, b))
+// The two tables, to be lent to many products: a constant array is built anew in each function that names it.
+#[derive(Drop)]
+pub struct Tables {
+    powers: [u8; POWER_COUNT],
+    logs: [u8; BYTE_COUNT],
+    ghost powers_right: { IsPowers powers },
+    ghost logs_right: { IsLogs logs },
 }
 
-// The inverse by lent tables; 0 for 0.
-pub fn inv_by(powers: &[u8; POWER_COUNT], logs: &[u8; BYTE_COUNT], a: u8) -> u8
-    requires powers { IsPowers powers.now }
-    requires logs { IsLogs logs.now }
-    ensures { result ≡ inverse a }
-{
-    if a == 0 {
-        return 0;
+impl Tables {
+    pub fn new() -> Self {
+        Tables {
+            powers: powers(),
+            logs: logs(),
+        }
     }
-    power_at(powers, CYCLE - logs[a as usize] as u16)
+
+    // The sum of two bytes' logarithms, in 16 bits.
+    #[tactic(auto, using(crate::proofs::Laws::LookupLaws::log_below), unfolding(crate::specs::LogSums::log_sum))]
+    fn log_sum(&self, a: u8, b: u8) -> u16
+        ensures value { result ≡ log_sum self.now.logs a b }
+        ensures upper_bound { result ≤ max_log_sum }
+    {
+        self.logs[a as usize] as u16 + self.logs[b as usize] as u16
+    }
+
+    // The product: two loads, a sum in 16 bits, a load.
+    #[tactic(auto, using(crate::proofs::Laws::LookupLaws::looked_up))]
+    pub fn mul(&self, a: u8, b: u8) -> u8
+        ensures value { result ≡ product a b }
+        ensures value_2 { result ≡ product_in sum_bits self.now.powers self.now.logs a b }
+    {
+        if a == 0 {
+            return 0;
+        }
+        if b == 0 {
+            return 0;
+        }
+        power_at(&self.powers, self.log_sum(a, b))
+    }
+
+    // The inverse; 0 for 0.
+    #[tactic(auto, using(crate::proofs::Laws::LookupLaws::of_zero, crate::proofs::Laws::LookupLaws::log_below, crate::proofs::Laws::LookupLaws::inverse_at))]
+    pub fn inv(&self, a: u8) -> u8
+        ensures { result ≡ inverse a }
+    {
+        if a == 0 {
+            return 0;
+        }
+        power_at(&self.powers, CYCLE - self.logs[a as usize] as u16)
+    }
+
+    // A byte with its doublings.
+    pub fn multiples(&self, w: u8) -> Multiples
+        ensures { result.w ≡ w }
+    {
+        Multiples {
+            w,
+            doubles: [
+                w,
+                self.mul(w, 2),
+                self.mul(w, 4),
+                self.mul(w, 8),
+                self.mul(w, 16),
+                self.mul(w, 32),
+                self.mul(w, 64),
+                self.mul(w, 128),
+            ],
+        }
+    }
+}
+
+// A byte and its eight products with 1, 2, 4 to 128, each the double of the one before: for its products with many bytes. The byte stands
+// beside the eight since a struct of just eight bytes is packed into one register, and taken apart again for each block: that costs 4 in 100.
+#[derive(Clone, Copy)]
+pub struct Multiples {
+    pub w: u8,
+    doubles: [u8; BITS],
+    ghost doubled: { doubles ≡ doublings 8 w },
+}
+
+impl Multiples {
+    // The product of the byte with another, by the bits of that.
+    #[tactic(auto, using(crate::proofs::Laws::BitLaws::bit_fits, crate::proofs::Laws::BitLaws::by_doublings), unfolding(crate::specs::Product::plus))]
+    pub fn times(self, x: u8) -> u8
+        ensures { result ≡ product self.w x }
+    {
+        x % 2 * self.doubles[0]
+            ^ (x / 2 % 2 * self.doubles[1]
+                ^ (x / 4 % 2 * self.doubles[2]
+                    ^ (x / 8 % 2 * self.doubles[3]
+                        ^ (x / 16 % 2 * self.doubles[4]
+                            ^ (x / 32 % 2 * self.doubles[5]
+                                ^ (x / 64 % 2 * self.doubles[6]
+                                    ^ x / 128 % 2 * self.doubles[7]))))))
+    }
 }
 
 // The product of two bytes.
 pub fn mul(a: u8, b: u8) -> u8
     ensures { result ≡ product a b }
 {
-    let p = powers();
-    let l = logs();
-    mul_by(&p, &l, a, b)
+    Tables::new().mul(a, b)
 }
 
 // The inverse of a byte; 0 for 0.
 pub fn inv(a: u8) -> u8
     ensures { result ≡ inverse a }
 {
-    let p = powers();
-    let l = logs();
-    inv_by(&p, &l, a)
+    Tables::new().inv(a)
 }
 
 // The quotient of two bytes; by 0 it is 0.
+#[tactic(auto, unfolding(crate::specs::Product::quotient))]
 pub fn div(a: u8, b: u8) -> u8
     ensures { result ≡ quotient a b }
 {
-    let p = powers();
-    let l = logs();
-    let c = inv_by(&p, &l, b);
-    mul_by(&p, &l, a, c)
+    let tables = Tables::new();
+    tables.mul(a, tables.inv(b))
 }

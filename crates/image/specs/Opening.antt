@@ -1,5 +1,5 @@
--- The answer of an opening, in the code's own records, and the tests that the code makes on single blocks.
-use Rattle.std.specs.Prelude.{Bool, cond, get_or, List, [], ◌∷◌, ◌++◌, ℕ, zero, suc, ◌+◌, ltb, eqb}
+-- The answer of an opening, by the refusal's number, and the tests that the code makes on single blocks.
+use Rattle.std.specs.Prelude.{Result, Ok, Err, Bool, cond, get_or, List, [], ◌∷◌, ◌++◌, ℕ, zero, suc, ◌+◌, ltb, eqb}
 use Rattle.settings.specs.Ranges.{in_range}
 use Rattle.settings.specs.Refusal.{refuse_unless, first_refusal, bad_setting, bad_length, bad_number}
 use Rattle.settings.specs.declared.Settings.{Settings}
@@ -9,13 +9,16 @@ use Rattle.image.specs.Parse.{Parsed, Opens, Refuses}
 use Rattle.image.specs.declared.Entry.{Entry}
 use Rattle.image.specs.declared.Holding.{Holding}
 use Rattle.image.specs.declared.Holding.TheVariants.{Held, Same}
-use Rattle.image.specs.declared.ImageAnswer.{ImageAnswer}
-use Rattle.image.specs.declared.ImageAnswer.TheVariants.{Opened, Refused}
-use Rattle.image.specs.declared.Shown.{Shown}
-use Rattle.image.specs.declared.Shown.TheVariants.{Values}
-use Rattle.image.specs.declared.Opening.{Opening}
+use Rattle.image.specs.ImageAnswers.{ImageAnswer}
+use Rattle.image.specs.ImageAnswers.{Opened, Refused}
+use Rattle.image.specs.declared.Panel.{Panel}
+use Rattle.image.specs.PanelAnswer.{Shown}
+use Rattle.image.specs.PanelAnswer.{Values}
+use Rattle.image.specs.ImageAnswers.{Opening}
+use Rattle.image.specs.declared.Opened.{Opened as OpenedImage}
+use Rattle.settings.specs.Refusal.{number_of_refusal}
+use Rattle.settings.specs.declared.Refusal.{Refusal}
 use Rattle.settings.specs.Refusal.{passed}
-use Rattle.image.specs.declared.Shown.TheVariants.{Refused}
 use Rattle.settings.specs.Ranges.{max_capacity}
 
 -- n values in a row
@@ -61,6 +64,11 @@ unfoldable pub opening : Parsed → Opening
 opening (Opens x) = record { answer = Opened (record { count = entry_count x; promise = x.promise }); log = working_log x }
 opening (Refuses k) = record { answer = Refused k; log = row_of no_blank max_capacity }
 
+-- the answer of the code, by the refusal's number
+abbrev pub opening_in : Result OpenedImage Refusal → Opening
+opening_in (Ok o) = record { answer = Opened o.head; log = o.log }
+opening_in (Err r) = record { answer = Refused (number_of_refusal r); log = row_of no_blank max_capacity }
+
 -- the number in an answer, 0 in one that opened
 unfoldable pub answer_number : ImageAnswer → ℕ
 answer_number (Opened head) = 0
@@ -70,6 +78,11 @@ answer_number (Refused k) = k
 unfoldable pub panel_of : Parsed → Shown
 panel_of (Opens x) = Values (record { promise = x.promise; newest = newest x })
 panel_of (Refuses k) = Shown.Refused k
+
+-- what the code shows, by the refusal's number
+abbrev pub shown_in : Result Panel Refusal → Shown
+shown_in (Ok panel) = Values panel
+shown_in (Err r) = Shown.Refused (number_of_refusal r)
 
 -- the first refusals of whatever is lent an image: 1 a setting, 2 the length, 3 the brick's number
 unfoldable pub lending_refusal : Settings → ℕ → ℕ → ℕ
@@ -83,4 +96,4 @@ lending_refusal s brick len =
 -- the panel's number: 0 where it shows two times
 unfoldable pub shown_number : Shown → ℕ
 shown_number (Values panel) = passed
-shown_number (Refused number) = number
+shown_number (Shown.Refused number) = number

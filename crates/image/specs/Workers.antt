@@ -1,5 +1,5 @@
 -- What the inner workers of this crate ask and give.
-use Rattle.std.specs.Prelude.{Bool, cond, not, ◌&&◌, ◌||◌, true, List, ◌++◌, ℕ, ◌+◌, ◌≤◌, ◌-◌, ltb, eqb, drop, replicate, ◌≡◌, ◌<◌, length}
+use Rattle.std.specs.Prelude.{Bool, cond, not, ◌&&◌, ◌||◌, true, List, [], ◌∷◌, ◌++◌, ℕ, ◌+◌, ◌≤◌, ◌-◌, ltb, eqb, drop, replicate, ◌≡◌, ◌<◌, length}
 use Rattle.settings.specs.Ranges.{in_range}
 use Rattle.settings.specs.declared.Settings.{Settings}
 use Rattle.image_block.specs.Block.{head_body, entry_body, mark_body, unused_body}
@@ -8,7 +8,7 @@ use Rattle.image.specs.Brick.{Brick, entry_count, saved_time, count_sound}
 use Rattle.image.specs.Image.{image_size}
 use Rattle.image.specs.Parse.{held_in, mark_in, Opens, parse, image_block_at, checked_at, time_in}
 use Rattle.image.specs.declared.Entry.{Entry}
-use Rattle.image.specs.declared.Opening.{Opening}
+use Rattle.image.specs.ImageAnswers.{Opening}
 use Rattle.image.specs.declared.Head.{Head}
 use Rattle.byte_lists.specs.Each.{each}
 use Rattle.image.specs.Opening.{row_of, blank, entry_for, working_log}
@@ -18,6 +18,7 @@ use Rattle.image.specs.Image.{image_of}
 use Rattle.image.specs.Parse.{brick_in}
 use Rattle.image_block.specs.Block.{check_bytes}
 use Rattle.settings.specs.Ranges.{max_capacity}
+use Rattle.settings.specs.Refusal.{first_refusal, refuse_unless, bad_check, bad_record}
 
 -- what an image that opens satisfies
 pub record ImageOpened (s : Settings) (brick : ℕ) (l : List ℕ) (x : Brick) : Type 0 where
@@ -76,8 +77,14 @@ slot_at size l n i = slot_fits size (image_block_at l (i + 1)) (time_in (image_b
 unfoldable pub entry_at : List ℕ → ℕ → ℕ → Entry
 entry_at l n i = entry_for (time_in (image_block_at l (i + 1))) (mark_in (image_block_at l (i + 1))) i n
 
--- what the loop gives
-pub record Scanned (size cap : ℕ) (l : List ℕ) (n : ℕ) (checks fits : Bool) (log : List Entry) : Type 0 where
-  pub all-checked : checks ≡ each (check_after l) cap
-  pub all_fit : checks ≡ true → fits ≡ each (slot_at size l n) cap
-  pub the-log : checks ≡ true → log ≡ row_of (entry_at l n) cap ++ replicate (max_capacity - cap) blank
+-- the loop's refusal: 5 where the check of any block fails, or else 6 where any is not as it should be
+unfoldable pub scan_refusal : ℕ → ℕ → List ℕ → ℕ → ℕ
+scan_refusal size cap l n =
+    first_refusal
+    (refuse_unless (each (check_after l) cap) bad_check
+    ∷ refuse_unless (each (slot_at size l n) cap) bad_record
+    ∷ [])
+
+-- the log that it gives
+abbrev pub scanned_log : ℕ → List ℕ → ℕ → List Entry
+scanned_log cap l n = row_of (entry_at l n) cap ++ replicate (max_capacity - cap) blank

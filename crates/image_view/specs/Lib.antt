@@ -1,2 +1,3 @@
--- View: a saved brick opened as a view, its count and the entry at a place.
+-- View: a saved brick opened as a view, its count and the entry at a place. ViewCount: the answer to "the count".
 pub mod View
+pub mod ViewCount

@@ -4,111 +4,83 @@
 
 ghost use Rattle.std.specs.Prelude.{◌≡◌, ℕ};
 ghost use Rattle.image.specs.Parse.{parse, open_refusal};
-ghost use Rattle.image_view.specs.View.{count_of, counted_number, found_at, found_by, found_in, found_of, view_of};
+ghost use Rattle.image_view.specs.View.{count_of, counted_given, counted_number, found_at, found_given, found_in, found_of, view_in, view_of};
 
 use byte_lists::read8;
-use image::{Entry, Holding, ImageAnswer, is_mark, number_of, open};
+use image::{Entry, Holding, is_mark, open};
 use image_block::{BLOCK_BYTES, ENTRY_TIME};
-use settings::{BAD_LENGTH, BAD_NUMBER, Settings};
+use settings::{Refusal, Settings};
 
-// How many entries an image has, or the number of its refusal.
-#[derive(Clone, Copy)]
-pub enum Counted {
-    Entries(usize),
-    Refused(u32),
-}
-
-// A lent image, and what opening it gave. The fields are private: only `open_view` makes a view, of a checked image.
+// A lent image, and how many entries it has, or its refusal. The fields are private: only `open_view` makes a view, of a checked image.
 #[derive(Clone, Copy)]
 pub struct View<'a> {
     image: &'a [u8],
-    counted: Counted,
-}
-
-// An entry, or the number of the refusal.
-#[derive(Clone, Copy)]
-pub enum Found {
-    At(Entry),
-    Refused(u32),
+    counted: Result<usize, Refusal>,
 }
 
 // The work of opening: the image is checked, and its entries are counted.
-fn count_in(s: Settings, brick: usize, image: &[u8]) -> Counted
-    ensures { result ≡ count_of (parse s brick image.now) }
+#[tactic(auto, using(crate::proofs::Laws::ViewLaws::counted_refused, crate::proofs::Laws::ViewLaws::counted_there))]
+fn count_in(s: Settings, brick: usize, image: &[u8]) -> Result<usize, Refusal>
+    ensures { counted_given result ≡ count_of (parse s brick image.now) }
 {
-    let o = open(s, brick, image);
-    let answer = o.answer;
-    let ImageAnswer::Opened(head) = answer else {
-        let number = number_of(answer);
-        return Counted::Refused(number);
+    let opening = open(s, brick, image);
+    let Ok(opened) = opening else {
+        return Err(opening.unwrap_err());
     };
-    let n = head.count;
-    Counted::Entries(n)
+    Ok(opened.head.count)
 }
 
 // The work of a lookup: the entry at a place of an image that has `count` of them.
-fn entry_at(image: &[u8], count: usize, place: usize) -> Found
-    ensures { result ≡ found_at image.now count place }
+fn entry_at(image: &[u8], count: usize, place: usize) -> Result<Entry, Refusal>
+    ensures { found_given result ≡ found_at image.now count place }
 {
     if image.len() / BLOCK_BYTES <= count {
-        return Found::Refused(BAD_LENGTH);
+        return Err(Refusal::BadLength);
     }
     if count <= place {
-        return Found::Refused(BAD_NUMBER);
+        return Err(Refusal::BadNumber);
     }
     let at = BLOCK_BYTES * (place + 1);
-    let e = at + BLOCK_BYTES;
-    let t = &image[at..e];
+    let t = &image[at..at + BLOCK_BYTES];
     let time = read8(t, ENTRY_TIME);
-    if is_mark(t) {
-        return Found::At(Entry {
-            time: time,
-            holding: Holding::Same,
-        });
-    }
-    Found::At(Entry {
-        time: time,
-        holding: Holding::Held(place + 1),
-    })
-}
-
-// The same by what opening gave.
-fn entry_by(image: &[u8], counted: Counted, place: usize) -> Found
-    ensures { result ≡ found_by image.now counted place }
-{
-    match counted {
-        Counted::Entries(count) => entry_at(image, count, place),
-        Counted::Refused(number) => Found::Refused(number),
-    }
+    let holding = if is_mark(t) {
+        Holding::Same
+    } else {
+        Holding::Held(place + 1)
+    };
+    Ok(Entry { time, holding })
 }
 
 // Opens a lent image as a view. Its count and its entries are those of the brick that the image holds; of a refused image both give the
-// number: 1, 2, 3, 5 or 6, as `image::open`.
+// refusal: 1, 2, 3, 5 or 6, as `image::open`.
 pub fn open_view<'a>(s: Settings, brick: usize, image: &'a [u8]) -> View<'a>
-    ensures { (result ≡ view_of s brick image.entry) × ((place : ℕ) → found_in result place ≡ found_of (parse s brick image.now) place)
-        × (counted_number result.counted ≡ open_refusal s brick image.now) }
+    ensures view { view_in result ≡ view_of s brick image.entry }
+    ensures entries { (place : ℕ) → found_in (view_in result) place ≡ found_of (parse s brick image.now) place }
+    ensures number { counted_number (counted_given result.counted) ≡ open_refusal s brick image.now }
 {
     let counted = count_in(s, brick, image);
     View { image, counted }
 }
 
 // How many entries the view has, or why its image was refused.
-pub fn count<'a>(v: View<'a>) -> Counted
+pub fn count<'a>(v: View<'a>) -> Result<usize, Refusal>
     ensures { result ≡ v.entry.counted }
 {
     v.counted
 }
 
 // The entry at a place of the view, or 3 for a place not below the count, or why its image was refused.
-pub fn entry<'a>(v: View<'a>, place: usize) -> Found
-    ensures { result ≡ found_in v.entry place }
+#[tactic(auto, unfolding(crate::specs::View::found_by))]
+pub fn entry<'a>(v: View<'a>, place: usize) -> Result<Entry, Refusal>
+    ensures { found_given result ≡ found_in (view_in v.entry) place }
 {
-    entry_by(v.image, v.counted, place)
+    let count = v.counted?;
+    entry_at(v.image, count, place)
 }
 
 // The entry at a place of a saved brick. Its parameters are plain, so whoever calls it needs no walk.
-pub fn look(s: Settings, brick: usize, image: &[u8], place: usize) -> Found
-    ensures { result ≡ found_of (parse s brick image.now) place }
+pub fn look(s: Settings, brick: usize, image: &[u8], place: usize) -> Result<Entry, Refusal>
+    ensures { found_given result ≡ found_of (parse s brick image.now) place }
 {
     entry(open_view(s, brick, image), place)
 }

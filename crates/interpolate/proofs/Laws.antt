@@ -1,8 +1,6 @@
 -- The laws of `interpolate`, for its own proofs and those of the crates above. No contract cites them.
-pub mod BitLaws
 pub mod BlockLaws
 pub mod ByteLaws
-pub mod FirstPlaceLaws
 pub mod FurtherBlockLaws
 pub mod PolynomialLaws
 pub mod WeightRowLaws

@@ -1,16 +1,10 @@
 -- What the inner functions give.
-use Rattle.std.specs.Prelude.{cond, List, [], ◌∷◌, ◌≡◌, ℕ, suc, ◌≤◌, ◌<◌, eqb, length, get_or}
+use Rattle.std.specs.Prelude.{List, ◌≡◌, ℕ, ◌≤◌, ◌<◌, length, get_or}
 use Rattle.byte_lists.specs.Lists.{tabulate}
 use Rattle.gf256.specs.Product.{plus, product, inverse}
-use Rattle.gf256.specs.Tables.{IsPowers, IsLogs}
 use Rattle.interpolate.specs.Bytes.{Byte, byte, byte_field}
 use Rattle.interpolate.specs.Values.{PointSet}
 use Rattle.poly.specs.Polynomial.{roots_to, others_to, basis}
-
--- the place of the first x in a list, its length if there is none
-unfoldable pub first_place : List ℕ → ℕ → ℕ
-first_place [] x = 0
-first_place (b ∷ bs) x = cond (eqb b x) 0 (suc (first_place bs x))
 
 -- a block and another one times w, added byte by byte
 unfoldable pub scaled : ℕ → List ℕ → List ℕ → List ℕ
@@ -48,10 +42,9 @@ pub record Weights (points : List ℕ) (x : ℕ) (weights : List ℕ) : Type 0 w
 pub record Apart (points further : List ℕ) : Type 0 where
   pub none : (i k : ℕ) → i < length further → k < length points → get_or points k 0 ≡ get_or further i 0 → ⊥
 
--- What the inner functions are lent: the two tables, the points, and the share of each.
-pub record PointsReady (powers logs points shares : List ℕ) : Type 0 where
-  pub powers-right : IsPowers powers
-  pub logs-right : IsLogs logs
+-- What a block is worked out from: the points, and the share of each.
+pub record PointsReady (points shares : List ℕ) : Type 0 where
   pub set : PointSet points
+  pub bytes : (k : ℕ) → get_or points k 0 < 256
   pub size : length points ≤ length shares
   pub shares-right : Shares points shares

@@ -3,14 +3,18 @@
 // inner: call `volume::receive`
 #![tactic(auto)]
 
-ghost use Rattle.std.specs.Prelude.{◌≡◌, ◌≤◌, ltb};
-ghost use Rattle.settings.specs.Count.{one_if};
+ghost use Rattle.std.specs.Prelude.{◌≡◌, ◌≤◌};
 ghost use Rattle.settings.specs.Ranges.{max_bricks};
+ghost use Rattle.settings.specs.Refusal.{refusal_in};
 ghost use Rattle.message.specs.Flags.{members, flags_within, brick_set};
 ghost use Rattle.message.specs.Messages.{round_right, found_right, targets_right, kind_right, message_refusal};
 ghost use Rattle.message.specs.Messages.{names_block, message_block_refusal, reply_right, reply_refusal};
 ghost use Rattle.message.specs.Messages.{is_silent, stores_entry, compares, comparison_right};
 
+use settings::Refusal;
+
+// stays: numbers and no enum, as the fields `kind` and `comparison` below hold them: an unknown one is refused with 10 (`Message::check`,
+// `Reply::check`), and definitions and theorems read these fields as numbers.
 pub const READ: u8 = 1;
 
 pub const ORDER: u8 = 2;
@@ -83,42 +87,18 @@ pub fn members_of(flags: [u8; settings::MAX_BRICKS], n: usize) -> usize
     requires { n ≤ max_bricks }
     ensures { result ≡ members flags n }
 {
-    let mut sum = 0;
-    let mut i = 0;
-    while i < n {
-        if flags[i] == 1 {
-            sum += 1;
-        }
-        i += 1;
-    }
-    sum
-}
-
-// 1 for a brick below n, else 0.
-fn most(i: usize, n: usize) -> u8
-    ensures { result ≡ one_if (ltb i n) }
-{
-    if i < n {
-        return 1;
-    }
-    0
+    flags[..n].iter().filter(|flag| **flag == 1).count()
 }
 
 // Whether the flags are 0 or 1, and 0 for what is no brick below n.
 pub fn flags_within(flags: [u8; settings::MAX_BRICKS], n: usize) -> bool
     ensures { result ≡ flags_within flags n max_bricks }
 {
-    let mut i = 0;
-    while i < settings::MAX_BRICKS {
-        if most(i, n) < flags[i] {
-            return false;
-        }
-        i += 1;
-    }
-    true
+    (0..settings::MAX_BRICKS).all(|i| flags[i] <= u8::from(i < n))
 }
 
 // Whether a round's number is 1 to the last.
+#[tactic(auto, unfolding(crate::specs::Messages::round_right))]
 pub fn round_right(round: u64) -> bool
     ensures { result ≡ round_right round }
 {
@@ -126,169 +106,144 @@ pub fn round_right(round: u64) -> bool
 }
 
 // Whether the flags are those of m bricks below n.
+#[tactic(auto, unfolding(crate::specs::Flags::brick_set))]
 pub fn brick_set(flags: [u8; settings::MAX_BRICKS], n: usize, m: usize) -> bool
     requires { n ≤ max_bricks }
     ensures { result ≡ brick_set flags n m }
 {
-    if flags_within(flags, n) {
-        return members_of(flags, n) == m;
-    }
-    false
+    flags_within(flags, n) && members_of(flags, n) == m
 }
 
 // Whether the flags are those of m bricks below n, or of one brick below m.
+#[tactic(auto, unfolding(crate::specs::Messages::targets_right))]
 fn targets_right(targets: [u8; settings::MAX_BRICKS], n: usize, m: usize) -> bool
     requires { (n ≤ max_bricks) × (m ≤ max_bricks) }
     ensures { result ≡ targets_right n m targets }
 {
-    if brick_set(targets, n, m) {
-        return true;
-    }
-    brick_set(targets, m, BLOCK_TARGETS)
+    brick_set(targets, n, m) || brick_set(targets, m, BLOCK_TARGETS)
 }
 
 // Whether a number is 0 or a valid time.
-fn found_right(t: u64) -> bool
+#[tactic(auto, unfolding(crate::specs::Messages::found_right))]
+pub fn found_right(t: u64) -> bool
     ensures { result ≡ found_right t }
 {
-    if t == 0 {
-        return true;
-    }
-    settings::is_time(t)
+    t == 0 || settings::is_time(t)
 }
 
 // Whether messages of a kind name a data block.
+#[tactic(auto, unfolding(crate::specs::Messages::names_block))]
 pub fn names_block(kind: u8) -> bool
     ensures { result ≡ names_block kind }
 {
-    if kind == ORDER_BLOCK {
-        return true;
-    }
-    kind == MODIFY
+    kind == ORDER_BLOCK || kind == MODIFY
 }
 
 // Whether messages of a kind have no reply.
+#[tactic(auto, unfolding(crate::specs::Messages::is_silent))]
 pub fn is_silent(kind: u8) -> bool
     ensures { result ≡ is_silent kind }
 {
-    if kind == TRIM {
-        return true;
-    }
-    kind == DROP
+    kind == TRIM || kind == DROP
 }
 
 // Whether messages of a kind store an entry.
+#[tactic(auto, unfolding(crate::specs::Messages::stores_entry))]
 pub fn stores_entry(kind: u8) -> bool
     ensures { result ≡ stores_entry kind }
 {
-    if kind == WRITE {
-        return true;
-    }
-    kind == MODIFY
+    kind == WRITE || kind == MODIFY
 }
 
 // Whether the answer to a kind makes a comparison.
+#[tactic(auto, unfolding(crate::specs::Messages::compares))]
 fn makes_comparison(kind: u8, comparison: u8) -> bool
     ensures { result ≡ compares kind comparison }
 {
-    if comparison == NEWER_TIME {
-        return kind != READ;
+    match comparison {
+        NEWER_TIME => kind != READ,
+        PROMISE_AHEAD => true,
+        FULL_LOG => stores_entry(kind),
+        _ => false,
     }
-    if comparison == PROMISE_AHEAD {
-        return true;
-    }
-    if comparison == FULL_LOG {
-        return stores_entry(kind);
-    }
-    false
 }
 
 // Whether a reply of a kind has the comparison that its answer allows: none on a yes, one that the kind makes on a no.
+#[tactic(auto, unfolding(crate::specs::Messages::comparison_right))]
 pub fn comparison_right(kind: u8, granted: bool, comparison: u8) -> bool
     ensures { result ≡ comparison_right kind granted comparison }
 {
     if granted {
-        return comparison == NO_COMPARISON;
+        comparison == NO_COMPARISON
+    } else {
+        makes_comparison(kind, comparison)
     }
-    makes_comparison(kind, comparison)
 }
 
 impl Message {
     // The rules that a kind adds.
+    #[tactic(auto, unfolding(crate::specs::Messages::kind_right, settings::specs::Times::no_upper_end))]
     fn kind_right(self, n: usize, m: usize) -> bool
         requires { (n ≤ max_bricks) × (m ≤ max_bricks) }
         ensures { result ≡ kind_right n m self }
     {
-        if self.kind == ORDER_READ {
-            return self.max <= settings::NO_UPPER_END;
+        match self.kind {
+            ORDER_READ => self.max <= settings::NO_UPPER_END,
+            READ => targets_right(self.targets, n, m),
+            MODIFY => found_right(self.old),
+            kind => READ <= kind && kind <= DROP,
         }
-        if self.kind == READ {
-            let targets = self.targets;
-            return targets_right(targets, n, m);
-        }
-        if self.kind == MODIFY {
-            return found_right(self.old);
-        }
-        READ <= self.kind && self.kind <= DROP
     }
 
-    // 14 where it names a data block that a stripe does not have, else 0.
-    pub fn block_refusal(self, m: usize) -> u32
-        ensures { result ≡ message_block_refusal m self }
+    // Refused with 14 where it names a data block that a stripe does not have.
+    #[tactic(auto, unfolding(crate::specs::Messages::message_block_refusal))]
+    pub fn check_block(self, m: usize) -> Result<(), Refusal>
+        ensures { refusal_in result ≡ message_block_refusal m self }
     {
         if names_block(self.kind) {
-            return settings::data_block_refusal(m, self.block);
+            return settings::check_data_block(m, self.block);
         }
-        settings::PASSED
+        Ok(())
     }
 
-    // 10 for a message that no coordinator sends, else 0.
-    pub fn refusal(self, n: usize, m: usize) -> u32
+    // Refused with 10 for a message that no coordinator sends.
+    #[tactic(auto, unfolding(crate::specs::Messages::message_refusal))]
+    pub fn check(self, n: usize, m: usize) -> Result<(), Refusal>
         requires { (n ≤ max_bricks) × (m ≤ max_bricks) }
-        ensures { result ≡ message_refusal n m self }
+        ensures { refusal_in result ≡ message_refusal n m self }
     {
-        if settings::is_time(self.time) {
-            if round_right(self.round) {
-                if self.kind_right(n, m) {
-                    return settings::PASSED;
-                }
-            }
+        if settings::is_time(self.time) && round_right(self.round) && self.kind_right(n, m) {
+            return Ok(());
         }
-        settings::BAD_MESSAGE
+        Err(Refusal::BadMessage)
     }
 }
 
 impl Reply {
     // Whether the fields are such as a brick gives.
+    #[tactic(auto, unfolding(crate::specs::Messages::reply_right))]
     fn right(self) -> bool
         ensures { result ≡ reply_right self }
     {
-        if self.kind < READ {
-            return false;
-        }
-        if MODIFY < self.kind {
-            return false;
-        }
-        if settings::is_time(self.time) {
-            if round_right(self.round) {
-                if found_right(self.found) {
-                    return comparison_right(self.kind, self.yes, self.comparison);
-                }
-            }
-        }
-        false
+        READ <= self.kind
+            && self.kind <= MODIFY
+            && settings::is_time(self.time)
+            && round_right(self.round)
+            && found_right(self.found)
+            && comparison_right(self.kind, self.yes, self.comparison)
     }
 
-    // 3 for a brick not below n, 10 for a reply that no brick gives, else 0.
-    pub fn refusal(self, n: usize) -> u32
-        ensures { result ≡ reply_refusal n self }
+    // Refused with 3 for a brick not below n, with 10 for a reply that no brick gives.
+    #[tactic(auto, unfolding(crate::specs::Messages::reply_refusal, settings::specs::Refusal::first_refusal))]
+    pub fn check(self, n: usize) -> Result<(), Refusal>
+        ensures { refusal_in result ≡ reply_refusal n self }
     {
         if n <= self.brick {
-            return settings::BAD_NUMBER;
+            return Err(Refusal::BadNumber);
         }
         if self.right() {
-            return settings::PASSED;
+            return Ok(());
         }
-        settings::BAD_MESSAGE
+        Err(Refusal::BadMessage)
     }
 }

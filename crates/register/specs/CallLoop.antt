@@ -11,10 +11,10 @@ use Rattle.message.specs.declared.Message.{Message}
 use Rattle.message.specs.declared.Reply.{Reply}
 use Rattle.brick.specs.Receive.{outcome_with, outcome}
 use Rattle.volume.specs.Rows.{image_at, with_image, row_lending_refusal, fresh_row_after, row_outcome}
-use Rattle.brick.specs.declared.Given.{Given}
+use Rattle.brick.specs.Receive.{Given}
 use Rattle.coord_record.specs.Records.{geometry_of, idle_with}
 use Rattle.coord_apply.specs.Answers.{Buffered, returned}
-use Rattle.coord_apply.specs.declared.Answer.{Answer}
+use Rattle.coord_apply.specs.Answers.{Answer}
 use Rattle.coordinator.specs.Routines.{write_call, read_call, write_block_call, read_block_call, take_call, crash_call}
 use Rattle.order.specs.Claim.{OneOrder, ◌∈◌}
 use Rattle.register.specs.Runs.{plain, message, reply, World, Event, Moved, unmoved, joined, received, standing, run}

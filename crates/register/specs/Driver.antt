@@ -4,13 +4,13 @@ use Rattle.message.specs.Kinds.{write_kind, modify_kind}
 use Rattle.message.specs.declared.Message.{Message}
 use Rattle.settings.specs.declared.Settings.{Settings}
 use Rattle.erasure.specs.Code.{block_of}
-use Rattle.brick.specs.declared.Given.{Given}
-use Rattle.brick.specs.declared.Given.TheVariants.{Answered, Silent, Refused}
+use Rattle.brick.specs.Receive.{Given}
+use Rattle.brick.specs.Receive.{Answered, Silent, Refused}
 use Rattle.coord_record.specs.Records.{idle_kind, geometry_of, idle_with}
 use Rattle.coord_record.specs.declared.Coordinator.{Coordinator}
 use Rattle.coord_record.specs.declared.Op.{Op}
 use Rattle.coord_apply.specs.Answers.{Buffered, Broadcast, Went, Step, refused, went}
-use Rattle.coord_apply.specs.declared.Answer.{Answer}
+use Rattle.coord_apply.specs.Answers.{Answer}
 use Rattle.order.specs.Claim.{cut, Seen}
 use Rattle.register.specs.Runs.{plain, World, Moved, put_at, on_stripe, seen_of, broadcasts}
 

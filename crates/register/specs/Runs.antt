@@ -10,8 +10,8 @@ use Rattle.message.specs.declared.Message.{Message}
 use Rattle.message.specs.declared.Reply.{Reply}
 use Rattle.brick.specs.Receive.{Outcome}
 use Rattle.volume.specs.Rows.{fresh_row, row_outcome}
-use Rattle.brick.specs.declared.Given.{Given}
-use Rattle.brick.specs.declared.Given.TheVariants.{Answered, Silent, Refused}
+use Rattle.brick.specs.Receive.{Given}
+use Rattle.brick.specs.Receive.{Answered, Silent, Refused}
 use Rattle.coord_record.specs.Records.{reading_kind, reading_block_kind, writing_block_kind, on_block, geometry_of, idle_with}
 use Rattle.erasure.specs.Code.{block_of, with_block}
 use Rattle.coord_apply.specs.Answers.{Buffered, Broadcast, Step, refused, went, began_seen, ok_seen, read_seen, aborted_seen, cut_seen}

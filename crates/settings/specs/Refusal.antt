@@ -1,6 +1,9 @@
 -- Document 01, "Refused by number, lowest first": the twelve numbers, and those that requests added. 0 stands for "not refused".
 -- A refusal returns its number alone, and every image, record and buffer keeps its bytes.
-use Rattle.std.specs.Prelude.{Bool, cond, List, [], ◌∷◌, ℕ, zero, suc}
+use Rattle.std.specs.Prelude.{Result, Ok, Err, Bool, cond, List, [], ◌∷◌, ℕ, zero, suc}
+use Rattle.settings.specs.declared.Refusal.{Refusal}
+use Rattle.settings.specs.declared.Refusal.TheVariants.{BadSetting, BadLength, BadNumber, BadBrickSet, BadCheck, BadRecord, BadReading}
+use Rattle.settings.specs.declared.Refusal.TheVariants.{ClockSpent, Busy, BadMessage, StrayReply, BadLine, BadStripe, BadBlock, BlocksDisagree}
 
 abbrev pub passed : ℕ
 passed = 0
@@ -74,3 +77,26 @@ bad_block = 14
 -- E3: "coded blocks that disagree, last in decoding"
 abbrev pub blocks_disagree : ℕ
 blocks_disagree = 15
+
+-- the paper's number of each refusal
+abbrev pub number_of_refusal : Refusal → ℕ
+number_of_refusal BadSetting = bad_setting
+number_of_refusal BadLength = bad_length
+number_of_refusal BadNumber = bad_number
+number_of_refusal BadBrickSet = bad_brick_set
+number_of_refusal BadCheck = bad_check
+number_of_refusal BadRecord = bad_record
+number_of_refusal BadReading = bad_reading
+number_of_refusal ClockSpent = clock_spent
+number_of_refusal Busy = busy
+number_of_refusal BadMessage = bad_message
+number_of_refusal StrayReply = stray_reply
+number_of_refusal BadLine = bad_line
+number_of_refusal BadStripe = bad_stripe
+number_of_refusal BadBlock = bad_block
+number_of_refusal BlocksDisagree = blocks_disagree
+
+-- the paper's number of an answer: 0 for one that is not refused
+abbrev pub refusal_in : {A : Type 0} → Result A Refusal → ℕ
+refusal_in (Ok a) = passed
+refusal_in (Err r) = number_of_refusal r

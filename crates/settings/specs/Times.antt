@@ -1,9 +1,8 @@
 -- Document 01, "Times".
-use Rattle.std.specs.Prelude.{Bool, cond, ◌&&◌, ℕ, ◌%◌, ◌+◌, ◌-◌, ◌*◌, ◌^◌, max, ◌≤◌, ◌<◌, leb, ltb, ◌≡◌}
-use Rattle.settings.specs.Refusal.{passed, bad_number, bad_record, bad_reading, clock_spent}
+use Rattle.std.specs.Prelude.{Result, Ok, Err, Bool, cond, ◌&&◌, ℕ, ◌%◌, ◌+◌, ◌-◌, ◌*◌, ◌^◌, max, ◌≤◌, ◌<◌, leb, ltb, ◌≡◌}
+use Rattle.settings.specs.Refusal.{number_of_refusal, passed, bad_number, bad_record, bad_reading, clock_spent}
 use Rattle.settings.specs.declared.Clock.{Clock}
-use Rattle.settings.specs.declared.Draw.{Draw}
-use Rattle.settings.specs.declared.Draw.TheVariants.{Drawn, Refused}
+use Rattle.settings.specs.declared.Refusal.{Refusal}
 
 -- "count 1 to 2^40−1"
 unfoldable pub max_count : ℕ
@@ -48,6 +47,16 @@ draw_refusal c reading =
 -- The clock after a reading that is not refused: its last count is the count drawn.
 unfoldable pub advanced : Clock → ℕ → Clock
 advanced c reading = record { coordinator = c.coordinator; last = next_count c.last reading }
+
+-- What a clock gives: a time and the clock that follows it, or the number of the refusal.
+pub data Draw : Type 0 where
+  Drawn : ℕ → Clock → Draw
+  Refused : ℕ → Draw
+
+-- the answer of the code, by the paper's number
+abbrev pub draw_in : Result (ℕ × Clock) Refusal → Draw
+draw_in (Ok (t, next)) = Drawn t next
+draw_in (Err r) = Refused (number_of_refusal r)
 
 -- "The clock gives a time together with the clock that follows it."
 unfoldable pub draw_of : Clock → ℕ → Draw

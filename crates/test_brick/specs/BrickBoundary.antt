@@ -2,13 +2,13 @@
 -- The lowest number comes first here too: 1, then 2 for the boundary's own buffers, then what the brick itself refuses.
 use Rattle.std.specs.Prelude.{Bool, cond, ◌&&◌, List, [], ◌∷◌, ℕ, ◌+◌, eqb, leb, length, get_or}
 use Rattle.brick.specs.Receive.{Outcome, given_number, outcome}
-use Rattle.brick.specs.declared.Given.{Given}
-use Rattle.brick.specs.declared.Given.TheVariants.{Answered, Silent, Refused}
+use Rattle.brick.specs.Receive.{Given}
+use Rattle.brick.specs.Receive.{Answered, Silent, Refused}
 use Rattle.byte_lists.specs.Lists.{tabulate}
 use Rattle.image.specs.Opening.{lending_refusal, panel_of, place_in, shown_number}
 use Rattle.image.specs.Parse.{parse}
-use Rattle.image.specs.declared.Shown.{Shown}
-use Rattle.image.specs.declared.Shown.TheVariants.{Values}
+use Rattle.image.specs.PanelAnswer.{Shown}
+use Rattle.image.specs.PanelAnswer.{Values}
 use Rattle.image_write.specs.Saving.{fresh_after}
 use Rattle.message.specs.declared.Message.{Message}
 use Rattle.message.specs.declared.Reply.{Reply}
@@ -18,8 +18,8 @@ use Rattle.settings.specs.Refusal.{passed, refuse_unless, first_refusal, bad_len
 use Rattle.settings.specs.declared.Settings.{Settings}
 use Rattle.volume.specs.Rows.{row_lending_refusal, fresh_row_after, row_outcome}
 use Rattle.image_view.specs.View.{found_number, found_of}
-use Rattle.image_view.specs.declared.Found.{Found}
-use Rattle.image_view.specs.declared.Found.TheVariants.{At}
+use Rattle.image_view.specs.View.{Found}
+use Rattle.image_view.specs.View.{At}
 
 -- the lengths of the boundary's own buffers: two numbers of the panel or of an entry, 23 of a message, nine of a reply
 abbrev pub pair_length : ℕ

@@ -1,20 +1,22 @@
 // The brick at a C boundary of numbers and slices, for the tests and benchmarks that compare it with other code: brick_.. with its image of
 // one stripe, volume_.. with the images of all stripes in one row. Every routine refuses the lowest number first: 1, then 2 for a buffer of
 // the boundary itself, then what the brick refuses.
+// stays: C interface: the six extern "C" functions take and give numbers and slices.
 #![tactic(auto)]
 
-ghost use Rattle.std.specs.Prelude.{◌≡◌, ◌+◌, ◌≤◌, length};
+ghost use Rattle.std.specs.Prelude.{◌≡◌, length};
 ghost use Rattle.test_brick.specs.BrickBoundary.{message_length, reply_length, own_refusal, fresh_with, fresh_at, fresh_row_at, panel_at, entry_pair_at};
-ghost use Rattle.test_brick.specs.BrickBoundary.{as_byte, as_bytes, message_of, numbers_right, reply_numbers, answer_code, given_buffer};
+ghost use Rattle.test_brick.specs.BrickBoundary.{as_byte, as_bytes, asked_targets_at, message_of, numbers_right, reply_numbers, answer_code, given_buffer};
 ghost use Rattle.test_brick.specs.BrickBoundary.{receipt_with, received_at, row_received_at};
 ghost use Rattle.volume.specs.ClientPlaces.{settings_with};
-ghost use Rattle.settings.specs.Count.{one_if};
+ghost use Rattle.brick.specs.Receive.{given_in};
+ghost use Rattle.settings.specs.Ranges.{max_bricks};
+ghost use Rattle.settings.specs.Refusal.{refusal_in};
 
-use brick::Given;
-use image::{Shown, place_of};
-use image_view::Found;
+use image::{place_of, show};
+use image_view::look;
 use message::{Message, Reply};
-use settings::{BAD_LENGTH, MAX_BRICKS, PASSED, Settings};
+use settings::{MAX_BRICKS, PASSED, Refusal, Settings, number_of};
 
 // The panel's two times, or an entry's time and place.
 const PAIR_LENGTH: usize = 2;
@@ -47,28 +49,16 @@ const REPLY_LENGTH: usize = 9;
 // The number that tells silence from a reply and from every refusal.
 const SILENCE: u32 = 100;
 
-// 0 or 1.
-fn flag(b: bool) -> u64
-    ensures { result ≡ one_if b }
+// Refused with 1 for a setting outside its range, then 2 for a buffer of the boundary itself.
+#[tactic(auto, unfolding(crate::specs::BrickBoundary::own_refusal, settings::specs::Refusal::first_refusal, settings::specs::Ranges::settings_refusal))]
+fn check_own(s: Settings, right: bool) -> Result<(), Refusal>
+    ensures { refusal_in result ≡ own_refusal s right }
 {
-    if b {
-        return 1;
+    s.check()?;
+    if !right {
+        return Err(Refusal::BadLength);
     }
-    0
-}
-
-// 1 for a setting outside its range, then 2 for a buffer of the boundary itself, else 0.
-fn own_refusal(s: Settings, right: bool) -> u32
-    ensures { result ≡ own_refusal s right }
-{
-    let bad = s.refusal();
-    if bad != PASSED {
-        return bad;
-    }
-    if right {
-        return PASSED;
-    }
-    BAD_LENGTH
+    Ok(())
 }
 
 // A fresh image.
@@ -91,7 +81,7 @@ pub extern "C" fn brick_fresh(
         capacity,
         stripes,
     };
-    image_write::write_fresh(s, brick, image)
+    number_of(image_write::write_fresh(s, brick, image))
 }
 
 // A fresh image for each stripe.
@@ -114,7 +104,18 @@ pub extern "C" fn volume_fresh(
         capacity,
         stripes,
     };
-    volume::write_fresh(s, brick, images)
+    number_of(volume::write_fresh(s, brick, images))
+}
+
+// The panel's two times, into a buffer of two numbers.
+#[tactic(auto, unfolding(crate::specs::BrickBoundary::panel_at, crate::specs::BrickBoundary::panel_pair, crate::specs::BrickBoundary::pair_unless, crate::specs::BrickBoundary::shown_buffer, image::specs::Opening::shown_number))]
+fn put_panel(s: Settings, brick: usize, image: &[u8], times: &mut [u64]) -> Result<(), Refusal>
+    ensures { record { number = refusal_in result; pair = times.new } ≡ panel_at s brick image.now times.old }
+{
+    check_own(s, times.len() == PAIR_LENGTH)?;
+    let panel = show(s, brick, image)?;
+    times.copy_from_slice(&[panel.promise, panel.newest]);
+    Ok(())
 }
 
 // The panel's two times, into a buffer of two numbers.
@@ -139,22 +140,27 @@ pub extern "C" fn brick_panel(
         capacity,
         stripes,
     };
-    let refusal = own_refusal(s, times.len() == PAIR_LENGTH);
-    if refusal != PASSED {
-        return refusal;
-    }
-    let shown = image::show(s, brick, image);
-    match shown {
-        Shown::Values(p) => {
-            times[0] = p.promise;
-            times[1] = p.newest;
-            PASSED
-        }
-        Shown::Refused(number) => number,
-    }
+    number_of(put_panel(s, brick, image, times))
 }
 
 // The view's entry at a place, into a buffer of two numbers: its time and the place of its block, 0 for a mark.
+#[tactic(auto, unfolding(crate::specs::BrickBoundary::entry_pair_at, crate::specs::BrickBoundary::entry_pair, crate::specs::BrickBoundary::pair_unless, crate::specs::BrickBoundary::entry_buffer, image_view::specs::View::found_number))]
+fn put_entry(
+    s: Settings,
+    brick: usize,
+    image: &[u8],
+    place: usize,
+    found: &mut [u64],
+) -> Result<(), Refusal>
+    ensures { record { number = refusal_in result; pair = found.new } ≡ entry_pair_at s brick image.now place found.old }
+{
+    check_own(s, found.len() == PAIR_LENGTH)?;
+    let entry = look(s, brick, image, place)?;
+    found.copy_from_slice(&[entry.time, place_of(entry.holding) as u64]);
+    Ok(())
+}
+
+// The view's entry at a place, into a buffer of two numbers.
 #[unsafe(no_mangle)]
 pub extern "C" fn brick_entry(
     n: usize,
@@ -177,105 +183,85 @@ pub extern "C" fn brick_entry(
         capacity,
         stripes,
     };
-    let refusal = own_refusal(s, found.len() == PAIR_LENGTH);
-    if refusal != PASSED {
-        return refusal;
-    }
-    let seen = image_view::look(s, brick, image, place);
-    match seen {
-        Found::At(e) => {
-            let holding = e.holding;
-            let held = place_of(holding);
-            found[0] = e.time;
-            found[1] = held as u64;
-            PASSED
-        }
-        Found::Refused(number) => number,
-    }
+    number_of(put_entry(s, brick, image, place, found))
 }
 
 // A reply into a buffer of nine numbers.
+#[tactic(auto, unfolding(crate::specs::BrickBoundary::reply_numbers))]
 fn put_reply(r: Reply, reply: &mut [u64])
     requires { length reply.old ≡ reply_length }
     ensures { reply.new ≡ reply_numbers r }
 {
-    reply[0] = r.kind as u64;
-    reply[1] = r.brick as u64;
-    reply[2] = r.time;
-    reply[3] = r.round;
-    reply[4] = flag(r.yes);
-    reply[5] = r.found;
-    reply[6] = flag(r.held);
-    reply[7] = r.stripe as u64;
-    reply[8] = r.comparison as u64;
+    reply.copy_from_slice(&[
+        r.kind as u64,
+        r.brick as u64,
+        r.time,
+        r.round,
+        u64::from(r.yes),
+        r.found,
+        u64::from(r.held),
+        r.stripe as u64,
+        r.comparison as u64,
+    ]);
 }
 
 // What a brick gave, into the reply's buffer: 0 a reply, or silence, or the refusal.
-fn put_given(g: Given, reply: &mut [u64]) -> u32
+#[tactic(auto, unfolding(crate::specs::BrickBoundary::answer_code, crate::specs::BrickBoundary::given_buffer, brick::specs::Receive::given_number))]
+fn put_given(given: Result<Option<Reply>, Refusal>, reply: &mut [u64]) -> u32
     requires { length reply.old ≡ reply_length }
-    ensures value { result ≡ answer_code g }
-    ensures reply_after { reply.new ≡ given_buffer g reply.old }
+    ensures value { result ≡ answer_code (given_in given) }
+    ensures reply_after { reply.new ≡ given_buffer (given_in given) reply.old }
 {
-    match g {
-        Given::Answered(r) => {
+    match given {
+        Ok(Some(r)) => {
             put_reply(r, reply);
             PASSED
         }
-        Given::Silent => SILENCE,
-        Given::Refused(number) => number,
+        Ok(None) => SILENCE,
+        Err(refusal) => refusal.number(),
     }
 }
 
 // A number as a byte; one that no byte holds as the last byte.
+#[tactic(auto, unfolding(crate::specs::BrickBoundary::as_byte))]
 fn as_byte(k: u64) -> u8
     ensures { result ≡ as_byte k }
 {
-    if k <= LAST_BYTE {
-        return k as u8;
-    }
-    LAST_BYTE as u8
-}
-
-// Numbers of a list, from a place on, as bytes.
-fn as_bytes(l: &[u64], at: usize, out: &mut [u8])
-    requires { at + length out.old ≤ length l.now }
-    ensures { out.new ≡ as_bytes at (length out.old) l.now }
-{
-    let mut i = 0;
-    while i < out.len() {
-        out[i] = as_byte(l[at + i]);
-        i += 1;
-    }
+    k.min(LAST_BYTE) as u8
 }
 
 // The message of 23 numbers.
+#[tactic(auto, unfolding(crate::specs::BrickBoundary::message_of))]
 fn message_of(asked: &[u64]) -> Message
     requires { length asked.now ≡ message_length }
     ensures { result ≡ message_of asked.now }
 {
-    let kind = as_byte(asked[KIND]);
-    let mut targets = [0u8; MAX_BRICKS];
-    as_bytes(asked, TARGETS, &mut targets);
     Message {
-        kind,
+        kind: as_byte(asked[KIND]),
         stripe: asked[STRIPE] as usize,
         time: asked[TIME],
         round: asked[ROUND],
         max: asked[MAX],
         old: asked[OLD],
         block: asked[BLOCK] as usize,
-        targets,
+        targets: targets_of(asked),
     }
 }
 
-// Whether a message's numbers and a reply's have their lengths.
-fn numbers_right(asked: usize, reply: usize) -> bool
-    ensures { result ≡ numbers_right asked reply }
+// The flags of a message's targets.
+fn targets_of(asked: &[u64]) -> [u8; MAX_BRICKS]
+    requires { length asked.now ≡ message_length }
+    ensures { result ≡ as_bytes asked_targets_at max_bricks asked.now }
 {
-    if asked != MESSAGE_LENGTH {
-        return false;
-    }
-    reply == REPLY_LENGTH
+    std::array::from_fn(|i| as_byte(asked[TARGETS + i]))
+}
+
+// Refused with 1 a setting, 2 the numbers of the message or of the reply.
+#[tactic(auto, unfolding(crate::specs::BrickBoundary::numbers_right))]
+fn check_asked(s: Settings, asked: usize, reply: usize) -> Result<(), Refusal>
+    ensures { refusal_in result ≡ own_refusal s (numbers_right asked reply) }
+{
+    check_own(s, asked == MESSAGE_LENGTH && reply == REPLY_LENGTH)
 }
 
 // One message at one image of a brick, with its block and the old block that goes with Modify: 23 numbers in (kind, time, round, max, stripe,
@@ -306,13 +292,11 @@ pub extern "C" fn brick_receive(
         capacity,
         stripes,
     };
-    let refusal = own_refusal(s, numbers_right(asked.len(), reply.len()));
-    if refusal != PASSED {
-        return refusal;
+    if let Err(refusal) = check_asked(s, asked.len(), reply.len()) {
+        return refusal.number();
     }
-    let msg = message_of(asked);
-    let g = brick::receive(s, brick, image, msg, block, old, out);
-    put_given(g, reply)
+    let given = brick::receive(s, brick, image, message_of(asked), block, old, out);
+    put_given(given, reply)
 }
 
 // The same at a brick with the images of all stripes in one row.
@@ -342,11 +326,9 @@ pub extern "C" fn volume_receive(
         capacity,
         stripes,
     };
-    let refusal = own_refusal(s, numbers_right(asked.len(), reply.len()));
-    if refusal != PASSED {
-        return refusal;
+    if let Err(refusal) = check_asked(s, asked.len(), reply.len()) {
+        return refusal.number();
     }
-    let msg = message_of(asked);
-    let g = volume::receive(s, brick, images, msg, block, old, out);
-    put_given(g, reply)
+    let given = volume::receive(s, brick, images, message_of(asked), block, old, out);
+    put_given(given, reply)
 }

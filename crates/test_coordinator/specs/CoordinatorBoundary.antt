@@ -1,8 +1,8 @@
 -- The coordinator's record and answers as numbers and bytes, for a boundary of slices.
 -- The lowest number comes first here too: 1, then 2 for the boundary's own buffers, then what the coordinator itself refuses.
-use Rattle.std.specs.Prelude.{Bool, cond, ◌&&◌, List, [], ◌∷◌, ◌++◌, ℕ, ◌+◌, eqb, length, get_or, take, drop}
+use Rattle.std.specs.Prelude.{◌≡◌, Bool, cond, ◌&&◌, List, [], ◌∷◌, ◌++◌, ℕ, ◌+◌, eqb, length, get_or, take, drop}
 use Rattle.coord_apply.specs.Answers.{Returned}
-use Rattle.coord_apply.specs.declared.Answer.{Answer}
+use Rattle.coord_apply.specs.Answers.{Answer}
 use Rattle.coord_record.specs.declared.Coordinator.{Coordinator}
 use Rattle.coordinator.specs.Routines.{write_call, read_call, write_block_call, read_block_call, take_call, crash_call}
 use Rattle.message.specs.declared.Reply.{Reply}
@@ -175,6 +175,13 @@ unfoldable pub lent_lengths : ℕ → ℕ → ℕ → ℕ → Bool
 lent_lengths numbers bytes sent shown =
     eqb numbers record_numbers_length && (eqb bytes record_bytes_length && (eqb sent answer_numbers_length && eqb shown answer_bytes_length))
 
+-- the same, as the code that fills them asks
+pub record Lengths (numbers bytes sent shown : ℕ) : Type 0 where
+  pub numbers-long : numbers ≡ record_numbers_length
+  pub bytes-long : bytes ≡ record_bytes_length
+  pub sent-long : sent ≡ answer_numbers_length
+  pub shown-long : shown ≡ answer_bytes_length
+
 -- an answer laid out in them; a refusal leaves them as they were
 unfoldable pub laid_out : Rows → Answer → Rows
 laid_out l a = cond (eqb a.refusal passed) (rows (record_numbers a.next) (record_bytes a.next) (answer_numbers a) (answer_bytes a)) l
@@ -205,7 +212,7 @@ crossing refusal l blocks stripe coded r =
     (at_boundary refusal l blocks stripe coded)
 
 -- a row replaced
-unfoldable pub row_put : ℕ → List ℕ → List ℕ → List ℕ
+unfoldable pub row_put : {A : Type 0} → ℕ → List A → List A → List A
 row_put at row l = take at l ++ (row ++ drop (at + max_bricks) l)
 
 abbrev pub reply_for : (kind brick stripe time round : ℕ) → Bool → ℕ → Bool → ℕ → Reply

@@ -3,17 +3,20 @@
 // the lowest number comes first: 1, then 2 for one of these buffers, then what the coordinator refuses.
 #![tactic(auto)]
 
-ghost use Rattle.std.specs.Prelude.{◌≡◌, [], ◌+◌, ◌≤◌, length};
+ghost use Rattle.std.specs.Prelude.{◌≡◌, IfOk, [], ◌+◌, ◌≤◌, length};
+ghost use Rattle.coord_apply.specs.Answers.{answered, answer_in};
+ghost use Rattle.coord_record.specs.declared.Coordinator.{Coordinator};
+ghost use Rattle.settings.specs.Refusal.{refusal_in};
 ghost use Rattle.settings.specs.Ranges.{max_bricks};
 ghost use Rattle.test_coordinator.specs.CoordinatorBoundary.{record_numbers_length, record_bytes_length, answer_numbers_length, answer_bytes_length};
 ghost use Rattle.test_coordinator.specs.CoordinatorBoundary.{record_for, record_numbers, record_bytes, answer_numbers, answer_bytes};
-ghost use Rattle.test_coordinator.specs.CoordinatorBoundary.{lent_lengths, lent_refusal, rows, laid_out, at_boundary, row_put, reply_for};
+ghost use Rattle.test_coordinator.specs.CoordinatorBoundary.{Lengths, lent_lengths, lent_refusal, rows, laid_out, at_boundary, row_put, reply_for};
 ghost use Rattle.test_coordinator.specs.CoordinatorBoundary.{wrote, looked, wrote_block, looked_block, took, fell};
 
 use coord_apply::Answer;
 use coord_record::{Coordinator, Geometry, Op, Tally};
 use message::Reply;
-use settings::{Clock, MAX_BRICKS};
+use settings::{Clock, MAX_BRICKS, Refusal};
 
 // How many numbers and bytes a record has, and an answer.
 const RECORD_NUMBERS: usize = 27;
@@ -116,68 +119,20 @@ const SECOND_KIND: usize = 51;
 const SEEN_LETTER: usize = 52;
 
 // Whether the four buffers have their lengths.
+#[tactic(auto, unfolding(crate::specs::CoordinatorBoundary::lent_lengths), using(std::proofs::lemmas::Bool::Decides::nat_tests))]
 fn lent_right(numbers: usize, bytes: usize, sent: usize, shown: usize) -> bool
     ensures { result ≡ lent_lengths numbers bytes sent shown }
 {
-    if numbers != RECORD_NUMBERS {
-        return false;
-    }
-    if bytes != RECORD_BYTES {
-        return false;
-    }
-    if sent != ANSWER_NUMBERS {
-        return false;
-    }
-    shown == ANSWER_BYTES
+    numbers == RECORD_NUMBERS
+        && (bytes == RECORD_BYTES && (sent == ANSWER_NUMBERS && shown == ANSWER_BYTES))
 }
 
-// 1 for a setting outside its range, then 2 where one of the four buffers has another length, else 0.
-fn lent_refusal(
-    n: usize,
-    m: usize,
-    size: usize,
-    stripes: usize,
-    numbers: usize,
-    bytes: usize,
-    sent: usize,
-    shown: usize,
-) -> u32
-    ensures { result ≡ lent_refusal n m size stripes numbers bytes sent shown }
-{
-    let bad = settings::code_refusal(n, m, size);
-    if bad != settings::PASSED {
-        return bad;
-    }
-    let many = settings::stripe_count_refusal(stripes);
-    if many != settings::PASSED {
-        return many;
-    }
-    if lent_right(numbers, bytes, sent, shown) {
-        return settings::PASSED;
-    }
-    settings::BAD_LENGTH
-}
-
-// Sixteen bytes from a slice of sixteen.
-fn row_of(t: &[u8]) -> [u8; MAX_BRICKS]
+// Sixteen entries from a slice of sixteen.
+fn row_of<T: Copy>(t: &[T]) -> [T; MAX_BRICKS]
     requires { length t.now ≡ max_bricks }
     ensures { result ≡ t.now }
 {
-    [
-        t[0], t[1], t[2], t[3], t[4], t[5], t[6], t[7], t[8], t[9], t[10], t[11], t[12], t[13],
-        t[14], t[15],
-    ]
-}
-
-// Sixteen times from a slice of sixteen.
-fn times_of(t: &[u64]) -> [u64; MAX_BRICKS]
-    requires { length t.now ≡ max_bricks }
-    ensures { result ≡ t.now }
-{
-    [
-        t[0], t[1], t[2], t[3], t[4], t[5], t[6], t[7], t[8], t[9], t[10], t[11], t[12], t[13],
-        t[14], t[15],
-    ]
+    <[T; MAX_BRICKS]>::try_from(t).unwrap()
 }
 
 // The record of its numbers and bytes.
@@ -205,58 +160,57 @@ fn record_of(numbers: &[u64], bytes: &[u8]) -> Coordinator
         max: numbers[MAX],
         first: numbers[FIRST] as usize,
     };
-    let found = times_of(&numbers[FOUND..RECORD_NUMBERS]);
+    let found = row_of(&numbers[FOUND..RECORD_NUMBERS]);
     let counted = row_of(&bytes[COUNTED..GRANTED]);
     let granted = row_of(&bytes[GRANTED..HELD]);
     let held = row_of(&bytes[HELD..BRICKS]);
     let bricks = row_of(&bytes[BRICKS..SAID]);
     let said = row_of(&bytes[SAID..RECORD_BYTES]);
-    let tally = Tally {
-        counted,
-        granted,
-        held,
-        found,
-        said,
-    };
     Coordinator {
         geometry,
         clock,
         op,
-        tally,
+        tally: Tally {
+            counted,
+            granted,
+            held,
+            found,
+            said,
+        },
         bricks,
     }
 }
 
-// Times copied from one slice into another.
-fn copy_times(from: &[u64], to: &mut [u64])
-    requires { length from.now ≡ length to.old }
-    ensures { to.new ≡ from.now }
+// The record that a call is lent. Refused: 1 for a setting outside its range, then 2 where one of the four buffers has another length.
+#[tactic(auto, unfolding(crate::specs::CoordinatorBoundary::lent_refusal), using(coord_refusals::proofs::Laws::RefusedLaws::checks))]
+fn lent_record(
+    volume: Geometry,
+    numbers: &[u64],
+    bytes: &[u8],
+    sent: &[u64],
+    shown: &[u8],
+) -> Result<Coordinator, Refusal>
+    ensures value { refusal_in result ≡ lent_refusal volume.n volume.m volume.size volume.stripes
+        (length numbers.now) (length bytes.now) (length sent.now) (length shown.now) }
+    ensures lengths { IfOk result (λ (c : Coordinator). Lengths (length numbers.now) (length bytes.now) (length sent.now) (length shown.now)) }
+    ensures read { IfOk result (λ (c : Coordinator). c ≡ record_for numbers.now bytes.now) }
 {
-    let mut i = 0;
-    while i < to.len() {
-        to[i] = from[i];
-        i += 1;
+    settings::check_code(volume.n, volume.m, volume.size)?;
+    settings::check_stripe_count(volume.stripes)?;
+    if lent_right(numbers.len(), bytes.len(), sent.len(), shown.len()) {
+        return Ok(record_of(numbers, bytes));
     }
+    Err(Refusal::BadLength)
 }
 
-// Sixteen bytes in their place.
-fn put_row(row: [u8; MAX_BRICKS], at: usize, out: &mut [u8])
+// Sixteen entries in their place.
+fn put_row<T: Copy>(row: [T; MAX_BRICKS], at: usize, out: &mut [T])
     requires { at + max_bricks ≤ length out.old }
     ensures out_after { out.new ≡ row_put at row out.old }
     ensures row_len { length row ≡ max_bricks }
 {
     let end = at + MAX_BRICKS;
-    byte_lists::copy(&row, &mut out[at..end])
-}
-
-// Sixteen times in their place.
-fn put_times(row: [u64; MAX_BRICKS], at: usize, out: &mut [u64])
-    requires { at + max_bricks ≤ length out.old }
-    ensures out_after { out.new ≡ row_put at row out.old }
-    ensures row_len { length row ≡ max_bricks }
-{
-    let end = at + MAX_BRICKS;
-    copy_times(&row, &mut out[at..end])
+    out[at..end].copy_from_slice(&row);
 }
 
 // The numbers of a record.
@@ -264,23 +218,18 @@ fn put_numbers(c: Coordinator, out: &mut [u64])
     requires { length out.old ≡ record_numbers_length }
     ensures { out.new ≡ record_numbers c }
 {
-    let geometry = c.geometry;
-    let clock = c.clock;
-    let op = c.op;
-    let tally = c.tally;
-    out[COORDINATOR] = clock.coordinator;
-    out[LAST] = clock.last;
-    out[TIME] = op.time;
-    out[ROUND] = op.round;
-    out[MAX] = op.max;
-    out[FIRST] = op.first as u64;
-    out[RECORD_N] = geometry.n as u64;
-    out[RECORD_M] = geometry.m as u64;
-    out[RECORD_SIZE] = geometry.size as u64;
-    out[RECORD_STRIPES] = geometry.stripes as u64;
-    out[RECORD_STRIPE] = op.stripe as u64;
-    let found = tally.found;
-    put_times(found, FOUND, out)
+    out[COORDINATOR] = c.clock.coordinator;
+    out[LAST] = c.clock.last;
+    out[TIME] = c.op.time;
+    out[ROUND] = c.op.round;
+    out[MAX] = c.op.max;
+    out[FIRST] = c.op.first as u64;
+    out[RECORD_N] = c.geometry.n as u64;
+    out[RECORD_M] = c.geometry.m as u64;
+    out[RECORD_SIZE] = c.geometry.size as u64;
+    out[RECORD_STRIPES] = c.geometry.stripes as u64;
+    out[RECORD_STRIPE] = c.op.stripe as u64;
+    put_row(c.tally.found, FOUND, out)
 }
 
 // The bytes of a record.
@@ -288,64 +237,51 @@ fn put_bytes(c: Coordinator, out: &mut [u8])
     requires { length out.old ≡ record_bytes_length }
     ensures { out.new ≡ record_bytes c }
 {
-    let op = c.op;
-    let tally = c.tally;
-    out[KIND] = op.kind;
-    out[PHASE] = op.phase;
-    let counted = tally.counted;
-    let granted = tally.granted;
-    let held = tally.held;
-    let bricks = c.bricks;
-    let said = tally.said;
-    put_row(counted, COUNTED, out);
-    put_row(granted, GRANTED, out);
-    put_row(held, HELD, out);
-    put_row(bricks, BRICKS, out);
-    put_row(said, SAID, out)
+    out[KIND] = c.op.kind;
+    out[PHASE] = c.op.phase;
+    put_row(c.tally.counted, COUNTED, out);
+    put_row(c.tally.granted, GRANTED, out);
+    put_row(c.tally.held, HELD, out);
+    put_row(c.bricks, BRICKS, out);
+    put_row(c.tally.said, SAID, out)
 }
 
 // The numbers of an answer.
 fn put_sent(a: Answer, out: &mut [u64])
     requires { length out.old ≡ answer_numbers_length }
-    ensures { out.new ≡ answer_numbers a }
+    ensures { out.new ≡ answer_numbers (answered a) }
 {
-    let message = a.message;
-    let second = a.second;
-    let seen = a.seen;
     out[SENT] = a.sent as u64;
-    out[MESSAGE_TIME] = message.time;
-    out[MESSAGE_ROUND] = message.round;
-    out[MESSAGE_MAX] = message.max;
-    out[SEEN_TIME] = seen.time;
-    out[SECOND_MESSAGE_TIME] = second.time;
-    out[SECOND_MESSAGE_ROUND] = second.round;
-    out[SECOND_MESSAGE_MAX] = second.max;
-    out[MESSAGE_STRIPE] = message.stripe as u64;
-    out[SEEN_STRIPE] = seen.stripe as u64;
-    out[SECOND_MESSAGE_STRIPE] = second.stripe as u64;
-    out[MESSAGE_OLD] = message.old;
-    out[MESSAGE_BLOCK] = message.block as u64;
-    out[SECOND_MESSAGE_OLD] = second.old;
-    out[SECOND_MESSAGE_BLOCK] = second.block as u64;
-    out[SEEN_BLOCK] = seen.block as u64;
+    out[MESSAGE_TIME] = a.message.time;
+    out[MESSAGE_ROUND] = a.message.round;
+    out[MESSAGE_MAX] = a.message.max;
+    out[SEEN_TIME] = a.seen.time;
+    out[SECOND_MESSAGE_TIME] = a.second.time;
+    out[SECOND_MESSAGE_ROUND] = a.second.round;
+    out[SECOND_MESSAGE_MAX] = a.second.max;
+    out[MESSAGE_STRIPE] = a.message.stripe as u64;
+    out[SEEN_STRIPE] = a.seen.stripe as u64;
+    out[SECOND_MESSAGE_STRIPE] = a.second.stripe as u64;
+    out[MESSAGE_OLD] = a.message.old;
+    out[MESSAGE_BLOCK] = a.message.block as u64;
+    out[SECOND_MESSAGE_OLD] = a.second.old;
+    out[SECOND_MESSAGE_BLOCK] = a.second.block as u64;
+    out[SEEN_BLOCK] = a.seen.block as u64;
 }
 
 // The bytes of an answer.
 fn put_shown(a: Answer, out: &mut [u8])
     requires { length out.old ≡ answer_bytes_length }
-    ensures { out.new ≡ answer_bytes a }
+    ensures { out.new ≡ answer_bytes (answered a) }
 {
-    let message = a.message;
-    let second = a.second;
-    let seen = a.seen;
-    out[MESSAGE_KIND] = message.kind;
-    out[SEEN_WHAT] = seen.what;
-    out[SEEN_KIND] = seen.kind;
-    out[SECOND_KIND] = second.kind;
-    out[SEEN_LETTER] = seen.letter;
-    let targets = message.targets;
-    let bricks = seen.bricks;
-    let more = second.targets;
+    out[MESSAGE_KIND] = a.message.kind;
+    out[SEEN_WHAT] = a.seen.what;
+    out[SEEN_KIND] = a.seen.kind;
+    out[SECOND_KIND] = a.second.kind;
+    out[SEEN_LETTER] = a.seen.letter;
+    let targets = a.message.targets;
+    let bricks = a.seen.bricks;
+    let more = a.second.targets;
     put_row(targets, TARGETS, out);
     put_row(bricks, SEEN_BRICKS, out);
     put_row(more, SECOND_TARGETS, out)
@@ -353,26 +289,22 @@ fn put_shown(a: Answer, out: &mut [u8])
 
 // An answer into the four buffers, and its refusal.
 fn put_answer(
-    a: Answer,
+    answer: Result<Answer, Refusal>,
     numbers: &mut [u64],
     bytes: &mut [u8],
     sent: &mut [u64],
     shown: &mut [u8],
 ) -> u32
-    requires numbers_len { length numbers.old ≡ record_numbers_length }
-    requires bytes_len { length bytes.old ≡ record_bytes_length }
-    requires sent_len { length sent.old ≡ answer_numbers_length }
-    requires shown_len { length shown.old ≡ answer_bytes_length }
-    ensures value { result ≡ a.refusal }
-    ensures shown_after { rows numbers.new bytes.new sent.new shown.new
-        ≡ laid_out (rows numbers.old bytes.old sent.old shown.old) a }
+    requires { Lengths (length numbers.old) (length bytes.old) (length sent.old) (length shown.old) }
+    ensures value { (old : Coordinator) → result ≡ (answer_in old answer).refusal }
+    ensures shown_after { (old : Coordinator) → rows numbers.new bytes.new sent.new shown.new
+        ≡ laid_out (rows numbers.old bytes.old sent.old shown.old) (answer_in old answer) }
 {
-    if a.refusal != settings::PASSED {
-        return a.refusal;
-    }
-    let next = a.next;
-    put_numbers(next, numbers);
-    put_bytes(next, bytes);
+    let Ok(a) = answer else {
+        return answer.unwrap_err().number();
+    };
+    put_numbers(a.next, numbers);
+    put_bytes(a.next, bytes);
     put_sent(a, sent);
     put_shown(a, shown);
     settings::PASSED
@@ -399,32 +331,18 @@ pub extern "C" fn coord_start_write(
         ≡ wrote n m size stripes (rows numbers.old bytes.old sent.old shown.old)
         stripe_number reading given.now stripe.old }
 {
-    let refusal = lent_refusal(
+    let volume = Geometry {
         n,
         m,
         size,
         stripes,
-        numbers.len(),
-        bytes.len(),
-        sent.len(),
-        shown.len(),
-    );
-    if refusal != settings::PASSED {
-        return refusal;
-    }
-    let c = record_of(numbers, bytes);
-    let a = coordinator::start_write(
-        n,
-        m,
-        size,
-        stripes,
-        c,
-        stripe_number,
-        reading,
-        given,
-        stripe,
-    );
-    put_answer(a, numbers, bytes, sent, shown)
+    };
+    let lent = lent_record(volume, numbers, bytes, sent, shown);
+    let Ok(c) = lent else {
+        return lent.unwrap_err().number();
+    };
+    let answer = coordinator::start_write(volume, c, stripe_number, reading, given, stripe);
+    put_answer(answer, numbers, bytes, sent, shown)
 }
 
 // A read begins.
@@ -446,22 +364,18 @@ pub extern "C" fn coord_start_read(
         ≡ looked n m size stripes (rows numbers.old bytes.old sent.old shown.old)
         stripe_number reading first }
 {
-    let refusal = lent_refusal(
+    let volume = Geometry {
         n,
         m,
         size,
         stripes,
-        numbers.len(),
-        bytes.len(),
-        sent.len(),
-        shown.len(),
-    );
-    if refusal != settings::PASSED {
-        return refusal;
-    }
-    let c = record_of(numbers, bytes);
-    let a = coordinator::start_read(n, m, size, stripes, c, stripe_number, reading, first);
-    put_answer(a, numbers, bytes, sent, shown)
+    };
+    let lent = lent_record(volume, numbers, bytes, sent, shown);
+    let Ok(c) = lent else {
+        return lent.unwrap_err().number();
+    };
+    let answer = coordinator::start_read(volume, c, stripe_number, reading, first);
+    put_answer(answer, numbers, bytes, sent, shown)
 }
 
 // A write of one block begins.
@@ -486,25 +400,18 @@ pub extern "C" fn coord_start_write_block(
         ≡ wrote_block n m size stripes (rows numbers.old bytes.old sent.old shown.old)
         stripe_number reading block given.now stripe.old }
 {
-    let refusal = lent_refusal(
+    let volume = Geometry {
         n,
         m,
         size,
         stripes,
-        numbers.len(),
-        bytes.len(),
-        sent.len(),
-        shown.len(),
-    );
-    if refusal != settings::PASSED {
-        return refusal;
-    }
-    let c = record_of(numbers, bytes);
-    let a = coordinator::start_write_block(
-        n,
-        m,
-        size,
-        stripes,
+    };
+    let lent = lent_record(volume, numbers, bytes, sent, shown);
+    let Ok(c) = lent else {
+        return lent.unwrap_err().number();
+    };
+    let answer = coordinator::start_write_block(
+        volume,
         c,
         stripe_number,
         reading,
@@ -512,7 +419,7 @@ pub extern "C" fn coord_start_write_block(
         given,
         stripe,
     );
-    put_answer(a, numbers, bytes, sent, shown)
+    put_answer(answer, numbers, bytes, sent, shown)
 }
 
 // A read of one block begins.
@@ -534,22 +441,18 @@ pub extern "C" fn coord_start_read_block(
         ≡ looked_block n m size stripes (rows numbers.old bytes.old sent.old shown.old)
         stripe_number reading block }
 {
-    let refusal = lent_refusal(
+    let volume = Geometry {
         n,
         m,
         size,
         stripes,
-        numbers.len(),
-        bytes.len(),
-        sent.len(),
-        shown.len(),
-    );
-    if refusal != settings::PASSED {
-        return refusal;
-    }
-    let c = record_of(numbers, bytes);
-    let a = coordinator::start_read_block(n, m, size, stripes, c, stripe_number, reading, block);
-    put_answer(a, numbers, bytes, sent, shown)
+    };
+    let lent = lent_record(volume, numbers, bytes, sent, shown);
+    let Ok(c) = lent else {
+        return lent.unwrap_err().number();
+    };
+    let answer = coordinator::start_read_block(volume, c, stripe_number, reading, block);
+    put_answer(answer, numbers, bytes, sent, shown)
 }
 
 // A reply arrives; stripe_number: its stripe's, has: whether it holds a block, comparison: the one that said no.
@@ -583,20 +486,16 @@ pub extern "C" fn coord_take_reply(
         (reply_for kind brick stripe_number time round yes found has comparison) block.now
         blocks.old stripe.old coded.old }
 {
-    let refusal = lent_refusal(
+    let volume = Geometry {
         n,
         m,
         size,
         stripes,
-        numbers.len(),
-        bytes.len(),
-        sent.len(),
-        shown.len(),
-    );
-    if refusal != settings::PASSED {
-        return refusal;
-    }
-    let c = record_of(numbers, bytes);
+    };
+    let lent = lent_record(volume, numbers, bytes, sent, shown);
+    let Ok(c) = lent else {
+        return lent.unwrap_err().number();
+    };
     let reply = Reply {
         kind,
         brick,
@@ -608,8 +507,8 @@ pub extern "C" fn coord_take_reply(
         held: has,
         comparison,
     };
-    let a = coordinator::take_reply(n, m, size, stripes, c, reply, block, blocks, stripe, coded);
-    put_answer(a, numbers, bytes, sent, shown)
+    let answer = coordinator::take_reply(volume, c, reply, block, blocks, stripe, coded);
+    put_answer(answer, numbers, bytes, sent, shown)
 }
 
 // A crash.
@@ -627,20 +526,16 @@ pub extern "C" fn coord_crash(
     ensures { at_boundary result (rows numbers.new bytes.new sent.new shown.new) [] [] []
         ≡ fell n m size stripes (rows numbers.old bytes.old sent.old shown.old) }
 {
-    let refusal = lent_refusal(
+    let volume = Geometry {
         n,
         m,
         size,
         stripes,
-        numbers.len(),
-        bytes.len(),
-        sent.len(),
-        shown.len(),
-    );
-    if refusal != settings::PASSED {
-        return refusal;
-    }
-    let c = record_of(numbers, bytes);
-    let a = coordinator::crash(n, m, size, stripes, c);
-    put_answer(a, numbers, bytes, sent, shown)
+    };
+    let lent = lent_record(volume, numbers, bytes, sent, shown);
+    let Ok(c) = lent else {
+        return lent.unwrap_err().number();
+    };
+    let answer = coordinator::crash(volume, c);
+    put_answer(answer, numbers, bytes, sent, shown)
 }

@@ -5,8 +5,8 @@ use Rattle.settings.specs.Ranges.{settings_refusal}
 use Rattle.settings.specs.Refusal.{bad_length}
 use Rattle.settings.specs.Times.{draw_of, number_of}
 use Rattle.settings.specs.declared.Clock.{Clock}
-use Rattle.settings.specs.declared.Draw.{Draw}
-use Rattle.settings.specs.declared.Draw.TheVariants.{Drawn, Refused}
+use Rattle.settings.specs.Times.{Draw}
+use Rattle.settings.specs.Times.{Drawn, Refused}
 
 -- 2 to the k within the table
 unfoldable pub power_or_zero : ℕ → ℕ

@@ -8,7 +8,7 @@ ghost use Rattle.test_field.specs.FieldBoundary.{power_or_zero, IsLog, settings_
 ghost use Rattle.settings.specs.Ranges.{quorum};
 ghost use Rattle.settings.specs.Times.{valid_time};
 
-use settings::{Clock, Draw, Settings};
+use settings::{Clock, Refusal, Settings};
 
 // What a draw writes: the time and the next last count.
 const DRAWN_NUMBERS: usize = 2;
@@ -38,6 +38,7 @@ pub extern "C" fn probe_div(a: u8, b: u8) -> u8
 }
 
 // 2 to the k by the table, 0 past it.
+#[tactic(auto, unfolding(crate::specs::FieldBoundary::power_or_zero))]
 #[unsafe(no_mangle)]
 pub extern "C" fn probe_power(k: usize) -> u8
     ensures { result ≡ power_or_zero k }
@@ -78,6 +79,7 @@ pub extern "C" fn probe_time(t: u64) -> bool
 }
 
 // The refusal of five settings.
+#[tactic(auto, unfolding(crate::specs::FieldBoundary::settings_number))]
 #[unsafe(no_mangle)]
 pub extern "C" fn probe_settings(
     n: usize,
@@ -95,24 +97,21 @@ pub extern "C" fn probe_settings(
         capacity,
         stripes,
     };
-    s.refusal()
+    settings::number_of(s.check())
 }
 
 // A clock's draw: the time and the next clock's last count go into a buffer of two numbers.
+#[tactic(auto, using(crate::proofs::Laws::FieldBoundaryLaws::draw_ways), unfolding(crate::specs::FieldBoundary::clock_of))]
 #[unsafe(no_mangle)]
 pub extern "C" fn probe_draw(coordinator: u64, last: u64, reading: u64, out: &mut [u64]) -> u32
     ensures { record { number = result; drawn = out.new } ≡ draw_at coordinator last reading out.old }
 {
     if out.len() != DRAWN_NUMBERS {
-        return settings::BAD_LENGTH;
+        return Refusal::BadLength.number();
     }
-    let clock = Clock {
-        coordinator: coordinator,
-        last: last,
-    };
-    let drawn = clock.draw(reading);
-    let Draw::Drawn(time, next) = drawn else {
-        return drawn.number();
+    let drawn = Clock { coordinator, last }.draw(reading);
+    let Ok((time, next)) = drawn else {
+        return settings::number_of(drawn);
     };
     out[0] = time;
     out[1] = next.last;

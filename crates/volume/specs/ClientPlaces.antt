@@ -1,10 +1,20 @@
 -- Document 02, E1: "client block v lies in stripe v mod S, data block v divided by S rounded down, S being the stripe count".
-use Rattle.std.specs.Prelude.{cond, List, [], ◌∷◌, ℕ, ◌+◌, ◌*◌, ◌%◌, ◌/◌, eqb, ltb, length}
+use Rattle.std.specs.Prelude.{Result, Ok, Err, cond, List, [], ◌∷◌, ℕ, ◌+◌, ◌*◌, ◌%◌, ◌/◌, eqb, ltb, length}
 use Rattle.settings.specs.Ranges.{settings_refusal}
 use Rattle.settings.specs.Refusal.{passed, refuse_unless, first_refusal, bad_length, bad_stripe}
 use Rattle.settings.specs.declared.Settings.{Settings}
-use Rattle.volume.specs.declared.Placed.{Placed}
-use Rattle.volume.specs.declared.Placed.TheVariants.{At, Refused}
+use Rattle.settings.specs.Refusal.{number_of_refusal}
+use Rattle.settings.specs.declared.Refusal.{Refusal}
+
+-- where a client block lies, a stripe and a data block; or the number of the refusal
+pub data Placed : Type 0 where
+  At : (stripe block : ℕ) → Placed
+  Refused : ℕ → Placed
+
+-- the answer of the code, by the refusal's number
+abbrev pub placed_in : Result (ℕ × ℕ) Refusal → Placed
+placed_in (Ok (stripe, block)) = At stripe block
+placed_in (Err r) = Refused (number_of_refusal r)
 
 -- "stripe v mod S"
 unfoldable pub stripe_of : Settings → ℕ → ℕ

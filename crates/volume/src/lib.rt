@@ -3,46 +3,39 @@
 
 ghost use Rattle.std.specs.Prelude.{◌≡◌, ◌<◌, length};
 ghost use Rattle.settings.specs.Ranges.{SettingsRange};
+ghost use Rattle.settings.specs.Refusal.{refusal_in};
 ghost use Rattle.image.specs.Brick.{fresh_brick};
 ghost use Rattle.image.specs.Image.{image_of};
 ghost use Rattle.byte_lists.specs.Lists.{stacked};
-ghost use Rattle.brick.specs.Receive.{outcome_with};
-ghost use Rattle.volume.specs.ClientPlaces.{settings_with, place_of, place_with, place_given};
+ghost use Rattle.brick.specs.Receive.{outcome_with, given_in};
+ghost use Rattle.volume.specs.ClientPlaces.{settings_with, place_of, placed_in, place_with, place_given};
 ghost use Rattle.volume.specs.Rows.{row_size, row_lending_refusal, fresh_row_after, row_outcome};
 
-use brick::Given;
+use brick::check_front;
 use image_block::BLOCK_BYTES;
-use message::Message;
-use settings::{BAD_LENGTH, BAD_NUMBER, BAD_STRIPE, PASSED, Settings};
-
-// Where a client block lies, a stripe and a data block; or the number of the refusal.
-#[derive(Clone, Copy)]
-pub enum Placed {
-    At(usize, usize),
-    Refused(u32),
-}
+use message::{Message, Reply};
+use settings::{Refusal, Settings};
 
 // The stripe and the data block of a client block. Refused: 1 a setting, 13 a block that the volume does not have.
-pub fn client_place(s: Settings, block: usize) -> Placed
-    ensures { result ≡ place_of s block }
+#[tactic(auto, unfolding(crate::specs::ClientPlaces::place_of, crate::specs::ClientPlaces::place_refusal, crate::specs::ClientPlaces::client_refusal, crate::specs::ClientPlaces::client_blocks, crate::specs::ClientPlaces::stripe_of, crate::specs::ClientPlaces::data_block_of, settings::specs::Refusal::first_refusal, settings::specs::Ranges::settings_refusal), using(settings::proofs::Laws::RangeLaws::settings_passed))]
+pub fn client_place(s: Settings, block: usize) -> Result<(usize, usize), Refusal>
+    ensures { placed_in result ≡ place_of s block }
 {
-    let bad = s.refusal();
-    if bad != PASSED {
-        return Placed::Refused(bad);
-    }
+    s.check()?;
     if s.stripes * s.m <= block {
-        return Placed::Refused(BAD_STRIPE);
+        return Err(Refusal::BadStripe);
     }
     let stripe = block % s.stripes;
     let data = block / s.stripes;
-    Placed::At(stripe, data)
+    Ok((stripe, data))
 }
 
 // The stripe and the data block, in a buffer of two.
 const PLACE_LENGTH: usize = 2;
 
-// The same from C, into a buffer of two numbers. Refused: 1 a setting, 2 a buffer of another length, 13 a block that the volume does not
+// The same into a buffer of two numbers; from C: `volume_c`. Refused: 1 a setting, 2 a buffer of another length, 13 a block that the volume does not
 // have.
+#[tactic(auto, unfolding(crate::specs::ClientPlaces::place_given, crate::specs::ClientPlaces::buffer_refusal, crate::specs::ClientPlaces::placed_number, crate::specs::ClientPlaces::placed_buffer, settings::specs::Refusal::first_refusal, settings::specs::Ranges::settings_refusal))]
 pub fn volume_place(
     n: usize,
     m: usize,
@@ -51,8 +44,8 @@ pub fn volume_place(
     stripes: usize,
     block: usize,
     place: &mut [usize],
-) -> u32
-    ensures { place_with result place.new ≡ place_given (settings_with n m size capacity stripes) block place.old }
+) -> Result<(), Refusal>
+    ensures { place_with (refusal_in result) place.new ≡ place_given (settings_with n m size capacity stripes) block place.old }
 {
     let s = Settings {
         n,
@@ -61,39 +54,28 @@ pub fn volume_place(
         capacity,
         stripes,
     };
-    let bad = s.refusal();
-    if bad != PASSED {
-        return bad;
-    }
+    s.check()?;
     if place.len() != PLACE_LENGTH {
-        return BAD_LENGTH;
+        return Err(Refusal::BadLength);
     }
-    let placed = client_place(s, block);
-    match placed {
-        Placed::At(stripe, at) => {
-            place[0] = stripe;
-            place[1] = at;
-            PASSED
-        }
-        Placed::Refused(number) => number,
-    }
+    let (stripe, data) = client_place(s, block)?;
+    place.copy_from_slice(&[stripe, data]);
+    Ok(())
 }
 
-// The refusal of a row of images for a fresh brick, 0 for none: 1 a setting, 2 the row's length, 3 the brick.
-fn row_refusal(s: Settings, brick: usize, len: usize) -> u32
-    ensures { result ≡ row_lending_refusal s brick len }
+// A row of images for a fresh brick, refused with 1 a setting, 2 the row's length, 3 the brick.
+#[tactic(auto, unfolding(crate::specs::Rows::row_lending_refusal, crate::specs::Rows::row_size, image::specs::Image::image_size, settings::specs::Refusal::first_refusal, settings::specs::Ranges::settings_refusal), using(settings::proofs::Laws::RangeLaws::settings_passed))]
+fn check_row(s: Settings, brick: usize, len: usize) -> Result<(), Refusal>
+    ensures { refusal_in result ≡ row_lending_refusal s brick len }
 {
-    let bad = s.refusal();
-    if bad != PASSED {
-        return bad;
-    }
+    s.check()?;
     if len != s.stripes * (BLOCK_BYTES * (s.capacity + 1)) {
-        return BAD_LENGTH;
+        return Err(Refusal::BadLength);
     }
     if s.n <= brick {
-        return BAD_NUMBER;
+        return Err(Refusal::BadNumber);
     }
-    PASSED
+    Ok(())
 }
 
 // A fresh image for each stripe.
@@ -104,28 +86,21 @@ fn fill_row(s: Settings, brick: usize, images: &mut [u8])
     ensures { images.new ≡ stacked s.stripes (λ _. image_of s brick (fresh_brick s)) }
 {
     let room = BLOCK_BYTES * (s.capacity + 1);
-    let stripes = s.stripes;
-    let mut stripe = 0;
-    let mut at = 0;
-    while stripe < stripes {
+    for stripe in 0..s.stripes {
+        let at = stripe * room;
         let end = at + room;
-        image_write::write_fresh(s, brick, &mut images[at..end]);
-        at = end;
-        stripe += 1;
+        let _ = image_write::write_fresh(s, brick, &mut images[at..end]);
     }
 }
 
 // Writes a fresh brick into a lent row: an image for each stripe. Refused: 1 a setting, 2 the row's length, 3 the brick.
-pub fn write_fresh(s: Settings, brick: usize, images: &mut [u8]) -> u32
-    ensures value { result ≡ row_lending_refusal s brick (length images.old) }
+pub fn write_fresh(s: Settings, brick: usize, images: &mut [u8]) -> Result<(), Refusal>
+    ensures value { refusal_in result ≡ row_lending_refusal s brick (length images.old) }
     ensures images_after { images.new ≡ fresh_row_after s brick images.old }
 {
-    let bad = row_refusal(s, brick, images.len());
-    if bad != PASSED {
-        return bad;
-    }
+    check_row(s, brick, images.len())?;
     fill_row(s, brick, images);
-    PASSED
+    Ok(())
 }
 
 // One message at a brick of a volume: the image of the message's stripe is opened and changed in place, and no other is looked at.
@@ -139,16 +114,12 @@ pub fn receive(
     block: &[u8],
     old: &[u8],
     out: &mut [u8],
-) -> Given
-    ensures { outcome_with result images.new out.new
+) -> Result<Option<Reply>, Refusal>
+    ensures { outcome_with (given_in result) images.new out.new
         ≡ row_outcome s brick images.old msg block.now old.now out.old }
 {
-    let bad = s.refusal();
-    if bad != PASSED {
-        return Given::Refused(bad);
-    }
-    let stripe = msg.stripe;
-    let number = brick::front_refusal(
+    s.check()?;
+    check_front(
         s,
         s.stripes,
         brick,
@@ -157,12 +128,9 @@ pub fn receive(
         block.len(),
         old.len(),
         out.len(),
-    );
-    if number != PASSED {
-        return Given::Refused(number);
-    }
+    )?;
     let room = BLOCK_BYTES * (s.capacity + 1);
-    let at = stripe * room;
+    let at = msg.stripe * room;
     let end = at + room;
     brick::receive(s, brick, &mut images[at..end], msg, block, old, out)
 }

@@ -18,5 +18,6 @@ pub extern "C" fn volume_place(
 ) -> u32
     ensures { place_with result place.new ≡ place_given (settings_with n m size capacity stripes) block place.old }
 {
-    volume::volume_place(n, m, size, capacity, stripes, block, place)
+    let placed = volume::volume_place(n, m, size, capacity, stripes, block, place);
+    settings::number_of(placed)
 }

@@ -30,6 +30,16 @@ impl Place {
             .then(|| Place::new(krate, part, module))
     }
 
+    /// The module and the name that a path of an attribute gives: `crate::proofs::Laws::TimeLaws::drawn`. `crate` is this crate.
+    pub fn of_attribute(krate: &str, path: &str) -> Option<(Place, String)> {
+        let (path, name) = path.rsplit_once("::")?;
+        let (first, rest) = path.split_once("::")?;
+        let (part, module) = rest.split_once("::")?;
+        let krate = if first == "crate" { krate } else { first };
+        let place = Place::new(krate, part, &module.replace("::", "."));
+        ["specs", "proofs"].contains(&part).then(|| (place, name.to_string()))
+    }
+
     /// Whether it is a module of laws that other crates may use, not the proof of a function.
     pub fn is_laws(&self) -> bool {
         self.part == "proofs" && self.module.starts_with("Laws.")
@@ -157,7 +167,7 @@ impl Use {
 pub struct Decl {
     pub place: Place,
     pub name: String,
-    pub marks: Vec<String>,   // `pub`, `unfoldable`, `abbrev`, ..
+    pub marks: Vec<String>,   // `pub`, `unfoldable`, `abbrev`, `ruleset`, ..
     pub kind: Option<String>, // `data` or `record`
     pub section: String,      // the heads of the `module _ .. where` that it stands in
     above: usize,             // lines of comment above it
@@ -273,7 +283,7 @@ impl Module {
 
 /// The first line of a declaration: its marks, `data` or `record`, its name, and whether a type follows.
 fn head_of(text: &str) -> (Vec<String>, Option<String>, String, bool) {
-    const MARKS: [&str; 5] = ["unfoldable", "abbrev", "pub", "private", "axiom"];
+    const MARKS: [&str; 6] = ["unfoldable", "abbrev", "pub", "private", "axiom", "ruleset"];
     let mut words = text.split_whitespace().peekable();
     let mut marks = Vec::new();
     while let Some(mark) = words.next_if(|word| MARKS.contains(word)) {
@@ -304,7 +314,7 @@ fn declarations(lines: &[&str], section: &str, place: &Place, found: &mut Vec<De
         }
         if indent(line) <= base {
             let (marks, kind, name, typed) = head_of(code(line));
-            let other = ["open", "ruleset", "syntax", "mutual"].contains(&name.as_str());
+            let other = ["open", "syntax", "mutual"].contains(&name.as_str());
             if name == "module" {
                 let rest = lines[at - 1..].iter();
                 let size = rest.take_while(|line| !ends_in_where(code(line))).count() + 1;
@@ -356,11 +366,18 @@ pub struct Function {
 pub struct Source {
     pub krate: String,
     pub file: String,
-    pub ghosts: Vec<Use>,     // `ghost use`
-    pub imports: Vec<String>, // the names that other `use` lines bring
-    pub head: Vec<String>,    // the comment that it begins with
-    pub code: String,         // without comments and imports
+    pub ghosts: Vec<Use>,        // `ghost use`
+    pub imports: Vec<String>,    // the names that other `use` lines bring
+    pub head: Vec<String>,       // the comment that it begins with
+    pub attributes: Vec<String>, // the lines that hand laws and definitions to the check
+    pub code: String,            // without comments, imports and those attributes
     pub functions: Vec<Function>,
+}
+
+/// Whether a line of code hands laws and definitions to the check: `#[tactic(auto, using(..), unfolding(..))]`.
+pub fn is_attribute(line: &str) -> bool {
+    let line = line.trim_start();
+    line.starts_with("#[tactic(") || line.starts_with("#![tactic(")
 }
 
 impl Source {
@@ -368,6 +385,7 @@ impl Source {
         let head = text.lines().take_while(|line| line.starts_with("//"));
         let head = head.map(str::to_string).collect();
         let (mut ghosts, mut imports, mut rest) = (Vec::new(), Vec::new(), Vec::new());
+        let mut attributes = Vec::new();
         let mut lines = text
             .lines()
             .filter(|line| !line.trim_start().starts_with("//"));
@@ -384,6 +402,9 @@ impl Source {
                     text = text + " " + lines.next().unwrap().trim();
                 }
                 imports.extend(imported(&text));
+            } else if is_attribute(line) {
+                assert!(line.trim_end().ends_with(")]"), "{file}: an attribute over several lines: {line}");
+                attributes.push(line.trim().to_string());
             } else {
                 rest.push(line.split(" // ").next().unwrap());
             }
@@ -396,6 +417,7 @@ impl Source {
             ghosts,
             imports,
             head,
+            attributes,
             code: rest.join("\n"),
             functions,
         }

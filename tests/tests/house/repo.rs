@@ -156,6 +156,20 @@ impl Repo {
         self.cites(text, &self.scope(&source.ghosts))
     }
 
+    /// What the attributes of a source name, by crate, module and name; and the paths that lead to nothing. The library's are not read.
+    pub fn named_in(&self, source: &Source) -> (Set, Vec<String>) {
+        let (mut found, mut lost) = (Set::new(), Vec::new());
+        for path in source.attributes.iter().flat_map(|line| pieces(line)).filter(|piece| piece.contains("::")) {
+            let named = Place::of_attribute(&source.krate, path);
+            match named.as_ref().map(|(place, name)| (place, self.find(place, name))) {
+                Some((_, Some(at))) => found.extend([at]),
+                Some((place, None)) if place.krate == "std" => {}
+                _ => lost.push(format!("{}: {path}", source.file)),
+            }
+        }
+        (found, lost)
+    }
+
     /// What a declaration's signature cites.
     pub fn cited_by_type(&self, at: usize) -> &Set {
         &self.cited_by_type[at]

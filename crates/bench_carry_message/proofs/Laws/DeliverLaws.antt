@@ -15,13 +15,13 @@ use Rattle.image.specs.Image.{image_size}
 use Rattle.brick.specs.Receive.{Outcome, outcome_with, receive_refusal}
 use Rattle.volume.specs.Rows.{row_size, row_outcome}
 use Rattle.brick.proofs.Laws.OutcomeLaws.{outcome_given, outcome_image, outcome_out}
-use Rattle.brick.specs.declared.Given.{Given}
-use Rattle.brick.specs.declared.Given.TheVariants.{Answered, Silent, Refused}
+use Rattle.brick.specs.Receive.{Given}
+use Rattle.brick.specs.Receive.{Answered, Silent, Refused}
 use Rattle.coord_apply.specs.Answers.{Buffered}
 use Rattle.register.specs.Runs.{Item, World, Moved, message, arrives, arriving, received, replied_with, put_at, step}
 use Rattle.byte_lists.specs.Lists.{put}
 use Rattle.byte_lists.proofs.Laws.PutLaws.{put_mid_lem}
-use Rattle.bench_state.proofs.Laws.KeptPartLaws.{any_default}
+use Rattle.std.proofs.lemmas.List.{get_or_default}
 use Rattle.bench_state.specs.State.{images_of, up_of, coordinator_kept, world_of}
 use Rattle.bench_state.proofs.Laws.BenchRangeLaws.{row_of_one}
 use Rattle.bench_state.proofs.Laws.StateLaws.{image_put}
@@ -349,8 +349,8 @@ module _ (b : Bench) (k brick : ℕ) (images numbers bytes : List ℕ) (m : is_r
 -- a brick's flag as the code reads it
 pub flag_up : (up : List ℕ) (brick d : ℕ) → brick < length up → get_or up brick d ≡ up_flag → up_of up brick ≡ true
 unfolding up_of
-flag_up up brick d h e = eq-eqb (get_or up brick up_flag) up_flag (any_default up brick up_flag d h ∙ e)
+flag_up up brick d h e = eq-eqb (get_or up brick up_flag) up_flag (get_or_default up brick up_flag d h ∙ e)
 
 pub flag_down : (up : List ℕ) (brick d : ℕ) → brick < length up → (get_or up brick d ≡ up_flag → ⊥) → up_of up brick ≡ false
 unfolding up_of
-flag_down up brick d h e = ne_eqb (get_or up brick up_flag) up_flag (λ q. e (any_default up brick d up_flag h ∙ q))
+flag_down up brick d h e = ne_eqb (get_or up brick up_flag) up_flag (λ q. e (get_or_default up brick d up_flag h ∙ q))

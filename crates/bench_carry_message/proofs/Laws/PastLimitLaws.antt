@@ -19,14 +19,19 @@ use Rattle.image.proofs.Laws.ParseLaws.{parse_opens}
 use Rattle.image.proofs.Laws.ShownNumberLaws.{opening_number}
 use Rattle.image.specs.Image.{image_size}
 use Rattle.image.specs.Opening.{opening, answer_number}
-use Rattle.image.specs.declared.Opening.{Opening}
+use Rattle.image.specs.ImageAnswers.{Opening}
 use Rattle.image_block.specs.Block.{block_bytes}
 use Rattle.brick_log.specs.BrickRules.{reply_to}
 use Rattle.brick.specs.Receive.{Beside, beside, Outcome, front_refusal, receive_refusal, refused_with, given_by, accepted, outcome}
 use Rattle.brick.proofs.Laws.OutcomeLaws.{passes}
-use Rattle.brick.specs.declared.Given.TheVariants.{Answered, Silent, Refused}
+use Rattle.brick.specs.Receive.{Answered, Silent, Refused}
 use Rattle.volume.specs.Rows.{row_size, row_outcome}
 use Rattle.volume.proofs.Laws.RowTheoremLaws.{one_image_is_a_row_of_one}
+use Rattle.image.specs.Opening.{opening_in}
+use Rattle.image.specs.declared.Opened.{Opened}
+use Rattle.settings.specs.Refusal.{number_of_refusal}
+use Rattle.settings.specs.declared.Refusal.{Refusal}
+use Rattle.std.specs.Prelude.{Ok, Err}
 use Rattle.register.specs.Runs.{World, arrives}
 use Rattle.bench_rules.specs.Play.{delivered, happens, refuses}
 use Rattle.bench_carry_message.specs.Workers.{may_send, image_in, of_the_size, past_limit}
@@ -129,9 +134,18 @@ module _ (s : Settings) (brick : ℕ) (l : List ℕ) (msg : Message) (b : Beside
         ∙ sym (first_pass (front_refusal s 1 brick (length l) msg b) _ (sym ek ∙ zk))
 
 -- the number of an image that does not open
-pub damaged_is : (s : Settings) (brick : ℕ) (l : List ℕ) (o : Opening) (j : ℕ) → o ≡ opening (parse s brick l) → j ≡ answer_number o.answer
+damaged_is : (s : Settings) (brick : ℕ) (l : List ℕ) (o : Opening) (j : ℕ) → o ≡ opening (parse s brick l) → j ≡ answer_number o.answer
     → j ≡ open_refusal s brick l
 damaged_is s brick l o j eo e = e ∙ ap (λ (x : Opening). answer_number x.answer) eo ∙ opening_number s brick l
+
+-- ... of the code's own answer, and that of one that opens
+pub unopened_is : (s : Settings) (brick : ℕ) (l : List ℕ) (r : Refusal) → opening_in (Err r) ≡ opening (parse s brick l) → number_of_refusal r ≡ open_refusal s brick l
+unfolding answer_number
+unopened_is s brick l r e = damaged_is s brick l (opening_in (Err r)) (number_of_refusal r) e refl
+
+pub opened_is : (s : Settings) (brick : ℕ) (l : List ℕ) (o : Opened) → opening_in (Ok o) ≡ opening (parse s brick l) → 0 ≡ open_refusal s brick l
+unfolding answer_number
+opened_is s brick l o e = damaged_is s brick l (opening_in (Ok o)) 0 e refl
 
 -- the image as the code cuts it
 module _ (s : Settings) (brick : ℕ) (images : List ℕ) (msg : Message) (number : ℕ) (f : Fits s)

@@ -17,8 +17,8 @@ use Rattle.brick.specs.Receive.{beside, outcome, accepted, given_by, refused_wit
 use Rattle.volume.specs.Rows.{row_size, image_at, with_image, in_row, row_refusal, row_outcome}
 use Rattle.volume.proofs.Laws.RowLaws.{image_back}
 use Rattle.brick_log.specs.BrickRules.{reply_to}
-use Rattle.brick.specs.declared.Given.{Given}
-use Rattle.brick.specs.declared.Given.TheVariants.{Answered, Silent, Refused}
+use Rattle.brick.specs.Receive.{Given}
+use Rattle.brick.specs.Receive.{Answered, Silent, Refused}
 use Rattle.register.specs.Runs.{reply, replied_with}
 use Rattle.bench_state.specs.State.{world_of}
 use Rattle.bench_state.specs.Workers.{with_sent}
@@ -104,15 +104,6 @@ module _ (s : Settings) (brick : ℕ) (row : List ℕ) (msg : Message) (block ol
       go false q z = let w = ltb-true k last_message z in omega arith
   room k Silent h m e = h
   room k (Refused n) h m e = h
-
--- the two ways of the limit
-pub may_silent : (kind sent : ℕ) (b : Bool) → b ≡ is_silent kind → b ≡ true → true ≡ may_send kind sent
-unfolding may_send
-may_silent kind sent b e t = sym (rw (← e, t) refl)
-
-pub may_other : (kind sent : ℕ) (b : Bool) → b ≡ is_silent kind → b ≡ false → ltb sent last_message ≡ may_send kind sent
-unfolding may_send
-may_other kind sent b e t = sym (rw (← e, t) refl)
 
 -- what the limit means for each answer
 pub room_answered : (k : ℕ) (g : Given) (r : Reply) → g ≡ Answered r → sent_after_message k g ≤ last_message → k < last_message

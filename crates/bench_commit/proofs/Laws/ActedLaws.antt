@@ -14,7 +14,7 @@ use Rattle.message.specs.declared.Reply.{Reply}
 use Rattle.coord_record.specs.declared.Coordinator.{Coordinator}
 use Rattle.coord_apply.specs.Acts.{buffered}
 use Rattle.coord_apply.specs.Answers.{Buffered, Step, refused, went, answer_of, blocks_after, stripe_after, coded_after, returned}
-use Rattle.coord_apply.specs.declared.Answer.{Answer}
+use Rattle.coord_apply.specs.Answers.{Answer}
 use Rattle.coord_apply.proofs.Laws.AnswerLaws.{returned_answer, returned_blocks, returned_stripe, returned_coded}
 use Rattle.coordinator.specs.Routines.{take_step, crash_step, write_step, read_step, write_call, read_call, take_call, crash_call}
 use Rattle.register.specs.Driver.{Short}

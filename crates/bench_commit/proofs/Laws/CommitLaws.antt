@@ -5,15 +5,20 @@ use mathlib.Core.List.{List, [], ◌∷◌, ◌++◌, append-nil, append_assoc}
 use Prim.Native.Nat.{ℕ, zero, suc, ◌+◌, ◌*◌, ◌≤◌, ◌<◌}
 use native.Mathlib.Omega.{arith}
 use native.Mathlib.Nat.{mul-le-mul_right}
-use lib.Dec.{leb}
-use lib.ListN.{length, set, take, replicate, length-append, length-replicate, get_or-replicate}
-use lib.Seq.{ext_get_or, length-take-le, get_or-take}
+use lib.Dec.{eqb, leb}
+use lib.ListN.{length, set, take, length-append}
 use borrow.Author.Tests.{eq-eqb, ne_eqb, le-leb, lt-leb}
 use Rattle.settings.specs.declared.Settings.{Settings}
 use Rattle.message.specs.Kinds.{modify_kind}
 use Rattle.message.specs.declared.Message.{Message}
 use Rattle.coord_apply.specs.Answers.{Buffered, Broadcast, Step, refused, went, most_broadcasts, answer_of, blocks_after, stripe_after, coded_after}
-use Rattle.coord_apply.specs.declared.Answer.{Answer}
+use Rattle.coord_apply.specs.Answers.{Answer, answer_in}
+use Rattle.coord_apply.specs.declared.Answer as Code
+use Rattle.coord_record.specs.declared.Coordinator.{Coordinator}
+use Rattle.coord_refusals.proofs.Laws.RefusedLaws.{number_positive}
+use Rattle.settings.specs.Refusal.{number_of_refusal}
+use Rattle.settings.specs.declared.Refusal.{Refusal}
+use Rattle.std.specs.Prelude.{Result, Ok, Err, is_ok}
 use Rattle.register.specs.Driver.{driven, listed, with_blocks, Short}
 use Rattle.register.proofs.Laws.DriverLaws.{coordinated_is_driven}
 use Rattle.register.specs.Runs.{Item, World, Event, Moved, step, coordinated, to_all, broadcasts}
@@ -33,7 +38,7 @@ use Rattle.bench_rules.proofs.Laws.TurningLaws.{one_event}
 use Rattle.bench_rules.specs.declared.After.{After}
 use Rattle.bench_commit.specs.Workers.{answered, sent_after_answer}
 use Rattle.bench_commit.specs.Workers.{Round, Seats, Copies, Answers}
-use Rattle.bench_limits.specs.Limits.{bench_coordinators, last_message, stripe_room, kept_length, line_room}
+use Rattle.bench_limits.specs.Limits.{bench_coordinators, last_message, kept_length, line_room}
 use Rattle.settings.specs.Refusal.{bad_line}
 
 -- a refusal has a number
@@ -211,25 +216,7 @@ module _ (b : Bench) (c : ℕ) (a : Answer) (blocks stripe coded kept numbers by
             seats.kept-long copies.blocks-long copies.stripe-long round ek eu eo short);
       }
 
--- the same at another coordinator
-pub seat_at : (b : Bench) (c d : ℕ) (kept numbers bytes : List ℕ) (at : ℕ) (out : List ℕ) → Seats b c kept numbers bytes at out → d < bench_coordinators → Seats b d kept numbers bytes at out
-seat_at b c d kept numbers bytes at out s h =
-    record {
-      fits = s.fits;
-      few = s.few;
-      low = h;
-      kept-long = s.kept-long;
-      numbers-long = s.numbers-long;
-      bytes-long = s.bytes-long;
-      room = s.room;
-    }
-
--- the front of a buffer of 32 zeros
-pub front_zeros : (k : ℕ) → k ≤ stripe_room → take {A = ℕ} k (replicate stripe_room 0) ≡ replicate k 0
-front_zeros k h =
-    let t = length-take-le k (replicate {A = ℕ} stripe_room 0) h in
-    ext_get_or 0 (take k (replicate stripe_room 0)) (replicate k 0) (t ∙ sym (length-replicate k 0))
-    (λ i u. get_or-take k (replicate stripe_room 0) i 0 (omega arith) ∙ get_or-replicate stripe_room i 0 0 (omega arith) ∙ sym (get_or-replicate k i 0 0 (omega arith)))
-
-pub front_long : (k : ℕ) → k ≤ stripe_room → k ≡ length (take {A = ℕ} k (replicate stripe_room 0))
-front_long k h = sym (length-take-le k (replicate {A = ℕ} stripe_room 0) h)
+-- an answer that is no refusal has the number of none
+pub passed_is_ok : (x : Result Code.Answer Refusal) (old : Coordinator) → is_ok x ≡ eqb (answer_in old x).refusal 0
+passed_is_ok (Ok a) old = refl
+passed_is_ok (Err r) old = sym (ne_eqb (number_of_refusal r) 0 (λ z. let p = number_positive r in omega arith))

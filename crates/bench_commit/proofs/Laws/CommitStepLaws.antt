@@ -8,8 +8,8 @@ use lib.Dec.{eqb, leb}
 use borrow.Author.Tests.{leb-false}
 use Rattle.settings.specs.Times.{draw_refusal, draw_of, time_of, next_count, advanced}
 use Rattle.settings.specs.declared.Clock.{Clock}
-use Rattle.settings.specs.declared.Draw.{Draw}
-use Rattle.settings.specs.declared.Draw.TheVariants.{Drawn, Refused}
+use Rattle.settings.specs.Times.{Draw}
+use Rattle.settings.specs.Times.{Drawn, Refused}
 use Rattle.message.specs.declared.Reply.{Reply}
 use Rattle.coord_apply.specs.Acts.{ending, starting, round_message, first_op}
 use Rattle.coord_apply.specs.Answers.{Buffered, Went, Step, refused, went, after_checks, nothing_seen, cut_seen, blocks_after, stripe_after, coded_after, sent_blocks}

@@ -28,7 +28,10 @@ use Rattle.coord_apply.specs.Acts.{buffered, round_message, clear_message, clear
 use Rattle.coord_apply.specs.Acts.{ending, acted, counting, with_tally, waiting_or, first_op}
 use Rattle.coord_apply.specs.Acts.{starting}
 use Rattle.coord_apply.specs.Answers.{Buffered, Broadcast, Went, Step, refused, went, nothing_seen, no_message, sent_message, answer_of, returned, returned_by}
-use Rattle.coord_apply.specs.declared.Answer.{Answer}
+use Rattle.coord_apply.specs.Answers.{Answer, answer_in}
+use Rattle.coord_apply.specs.declared.Answer as Code
+use Rattle.settings.specs.declared.Refusal.{Refusal}
+use Rattle.std.specs.Prelude.{Result, Ok, Err, IfOk}
 use Rattle.coord_apply.proofs.Laws.AnswerLaws.{returned_answer}
 use Rattle.coordinator.specs.Routines.{take_step, write_step, read_step, write_call, read_call, take_call, crash_call}
 use Rattle.coord_laws.proofs.Laws.OpCaseLaws.{in_block_order}
@@ -159,3 +162,9 @@ module _ (n m size stripes : ℕ) (c : Coordinator) (blocks stripe coded : List 
   take_lists r block e =
       lists_returned _ (take_short n m size stripes (buffered c blocks stripe) r block (length coded))
       (take_low n m size stripes (buffered c blocks stripe) r block (length coded)) e
+
+-- of an answer that is no refusal
+pub lists_given : (m : ℕ) (old : Coordinator) (x : Result Code.Answer Refusal) → Lists m (answer_in old x).sent (answer_in old x).message (answer_in old x).second
+    → IfOk x (λ (a : Code.Answer). Lists m a.sent a.message a.second)
+lists_given m old (Ok a) l = l
+lists_given m old (Err r) l = tt

@@ -5,8 +5,7 @@ use mathlib.Core.Bool.{Bool, true, false, cond, true≢false}
 use mathlib.Core.List.{List, [], ◌∷◌, ◌++◌, append_assoc}
 use Prim.Native.Nat.{ℕ, ◌≤◌}
 use native.Mathlib.Omega.{arith}
-use lib.Dec.{eqb, ltb}
-use borrow.Author.Tests.{ne_eqb}
+use lib.Dec.{ltb}
 use lib.ListN.{length, take, drop}
 use Rattle.bench_lines.specs.Cutting.{CutOff, Cuts, none, part, whole, last_line}
 use Rattle.bench_lines.specs.declared.Cut.{Cut}
@@ -17,7 +16,8 @@ use Rattle.bench_player.specs.Lining.{Called}
 use Rattle.bench_player.specs.declared.LinePlayed.{LinePlayed}
 use Rattle.bench_rules.specs.Turning.{Lent}
 use Rattle.bench_state.specs.declared.Bench.{Bench}
-use Rattle.bench_io.specs.Workers.{goes_on, at_end, cannot_write, failed_status, left_with, write_status, HeldPlayed, ChunkPlayed, PlayedLast}
+use Rattle.bench_io.specs.Workers.{goes_on, at_end, cannot_write, after_last, write_status, HeldPlayed, ChunkPlayed, PlayedLast}
+use Rattle.bench_io.specs.declared.Standing.{Standing}
 use Rattle.bench_io.specs.declared.Pass.{Pass}
 
 -- bytes that are no line yet, and a line
@@ -27,7 +27,7 @@ unfolding write_status
 plays_not true held line b l out e = absurd (true≢false e)
 plays_not false held line b l out e = record { text = []; calls = calls.none b l out; held-is = refl; written = true; status-is = refl }
 
-pub plays_line : (ended : Bool) (held : ℕ) (line : List ℕ) (b : Bench) (l : Lent) (out : List ℕ) (o : LinePlayed) (l' : Lent) (out' : List ℕ) (written : Bool) (status : ℕ)
+pub plays_line : (ended : Bool) (held : ℕ) (line : List ℕ) (b : Bench) (l : Lent) (out : List ℕ) (o : LinePlayed) (l' : Lent) (out' : List ℕ) (written : Bool) (status : Standing)
     → status ≡ write_status written → ended ≡ true → Called b l (take held line) out o l' out'
     → HeldPlayed ended held line b l out (record { bench = o.bench; held = 0; status = status }) l' out'
 plays_line true held line b l out o l' out' written status s e c =
@@ -35,24 +35,24 @@ plays_line true held line b l out o l' out' written status s e c =
 plays_line false held line b l out o l' out' written status s e c = absurd (true≢false (sym e))
 
 -- after writing the program is not at the end of the input
-pub written_not_ended : (written : Bool) (status : ℕ) → status ≡ write_status written → status ≢ at_end
+pub written_not_ended : (written : Bool) (status : Standing) → status ≡ write_status written → status ≢ at_end
 unfolding write_status
-written_not_ended true status e q = omega (arith, e, q)
-written_not_ended false status e q = omega (arith, e, q)
+written_not_ended true status e q = cc (e, q)
+written_not_ended false status e q = cc (e, q)
 
 -- after the last line: the end of the input, unless writing failed
-ended_is : (written : Bool) (status end : ℕ) → status ≡ write_status written → end ≡ cond (eqb status goes_on) at_end status → end ≡ cond written at_end cannot_write
+ended_is : (written : Bool) (status end : Standing) → status ≡ write_status written → end ≡ after_last status → end ≡ cond written at_end cannot_write
 unfolding write_status
 ended_is true status end e f = rw e at f
 ended_is false status end e f = rw e at f
 
 -- and the program does not go on
-pub last_not_on : (written : Bool) (status : ℕ) → status ≡ cond written at_end cannot_write → status ≢ goes_on
-last_not_on true status e q = omega (arith, e, q)
-last_not_on false status e q = omega (arith, e, q)
+pub last_not_on : (written : Bool) (status : Standing) → status ≡ cond written at_end cannot_write → status ≢ goes_on
+last_not_on true status e q = cc (e, q)
+last_not_on false status e q = cc (e, q)
 
-pub last_played : (held : ℕ) (line : List ℕ) (b : Bench) (l : Lent) (out : List ℕ) (p : Pass) (l' : Lent) (out' : List ℕ) (status : ℕ)
-    → status ≡ cond (eqb p.status goes_on) at_end p.status → HeldPlayed (ltb 0 held) held line b l out p l' out'
+pub last_played : (held : ℕ) (line : List ℕ) (b : Bench) (l : Lent) (out : List ℕ) (p : Pass) (l' : Lent) (out' : List ℕ) (status : Standing)
+    → status ≡ after_last p.status → HeldPlayed (ltb 0 held) held line b l out p l' out'
     → PlayedLast line held b l out (record { bench = p.bench; held = 0; status = status }) l' out'
 unfolding last_line
 last_played held line b l out p l' out' status n q =
@@ -79,7 +79,7 @@ cut_once false chunk line held at r line' e c = part r line' c e (none line' r.h
 
 -- A pass so far.
 pub record Passing
-    (chunk old : List ℕ) (held₀ : ℕ) (b₀ : Bench) (l₀ : Lent) (out₀ line : List ℕ) (held at : ℕ) (b : Bench) (l : Lent) (out : List ℕ) (status : ℕ) : Type 0 where
+    (chunk old : List ℕ) (held₀ : ℕ) (b₀ : Bench) (l₀ : Lent) (out₀ line : List ℕ) (held at : ℕ) (b : Bench) (l : Lent) (out : List ℕ) (status : Standing) : Type 0 where
   pub handed : List (List ℕ)
   pub text : List ℕ
   pub cut : Cuts chunk old held₀ 0 handed line held at
@@ -99,7 +99,7 @@ fewer true k n h = omega arith
 fewer false k n h = h
 
 module _ (chunk old : List ℕ) (held₀ : ℕ) (b₀ : Bench) (l₀ : Lent) (out₀ : List ℕ) where
-  pub passing_more : (line : List ℕ) (held at : ℕ) (b : Bench) (l : Lent) (out : List ℕ) (status : ℕ) (c : Cut) (line' : List ℕ) (p : Pass) (l' : Lent) (out' : List ℕ)
+  pub passing_more : (line : List ℕ) (held at : ℕ) (b : Bench) (l : Lent) (out : List ℕ) (status : Standing) (c : Cut) (line' : List ℕ) (p : Pass) (l' : Lent) (out' : List ℕ)
       → Passing chunk old held₀ b₀ l₀ out₀ line held at b l out status → CutOff (drop at chunk) at line held c line'
       → HeldPlayed c.whole c.held line' b l out p l' out' → Passing chunk old held₀ b₀ l₀ out₀ line' p.held c.next p.bench l' out' p.status
   passing_more line held at b l out status c line' p l' out' s k q =
@@ -130,33 +130,14 @@ module _ (chunk old : List ℕ) (held₀ : ℕ) (b₀ : Bench) (l₀ : Lent) (ou
           within = s.within;
         }
 
-    pub passed_stopped : (p.status ≡ 0 → ⊥) → ChunkPlayed chunk old held₀ b₀ l₀ out₀ p line l out
+    pub passed_stopped : (p.status ≡ goes_on → ⊥) → ChunkPlayed chunk old held₀ b₀ l₀ out₀ p line l out
     passed_stopped n = passed_if (λ e. absurd (n e))
 
     pub passed_all : length chunk ≤ at → ChunkPlayed chunk old held₀ b₀ l₀ out₀ p line l out
     passed_all h = passed_if (λ e. h)
 
--- after the last line: the end of the input, unless something failed
-pub end_comes : (status : ℕ) → status ≡ goes_on → at_end ≡ cond (eqb status goes_on) at_end status
-end_comes status e = rw e
-
-pub end_stays : (status : ℕ) → (status ≡ goes_on → ⊥) → status ≡ cond (eqb status goes_on) at_end status
-end_stays status h = rw (ne_eqb status goes_on h)
-
--- what the program leaves with: 0 at the end of the input, else 1
-pub left_well : (status : ℕ) → status ≡ at_end → 0 ≡ left_with status
-unfolding left_with
-left_well status e = rw e
-
-pub left_failed : (status : ℕ) → (status ≡ at_end → ⊥) → failed_status ≡ left_with status
-unfolding left_with
-left_failed status h = rw (ne_eqb status at_end h)
-
--- after a text: it was written, or it was not
-pub wrote : (written : Bool) → written ≡ true → goes_on ≡ write_status written
-unfolding write_status
-wrote written e = rw e
-
-pub wrote_not : (written : Bool) → written ≡ false → cannot_write ≡ write_status written
-unfolding write_status
-wrote_not written e = rw e
+-- a chunk with no byte
+pub nothing_passed : (line : List ℕ) (held : ℕ) (b : Bench) (l : Lent) (out : List ℕ) → held ≤ length line
+    → ChunkPlayed [] line held b l out (record { bench = b; held = held; status = goes_on }) line l out
+nothing_passed line held b l out h =
+    passed_all [] line held b l out (record { bench = b; held = held; status = goes_on }) line 0 l out (passing_none [] line held b l out h) (omega arith)

@@ -1,13 +1,11 @@
 -- One turn after the other, to the end of the input.
 use mathlib.Core.Path.{◌≡◌, refl, sym, subst, ap, ◌∙◌}
-use mathlib.Core.Bool.{Bool, true, false, cond}
+use mathlib.Core.Bool.{Bool}
 use mathlib.Core.List.{List, [], ◌∷◌, ◌++◌, append_assoc, append-nil}
-use Prim.Native.Nat.{ℕ, ◌+◌, ◌-◌, ◌≤◌, ◌<◌}
+use Prim.Native.Nat.{ℕ, ◌+◌, ◌≤◌}
 use native.Mathlib.Omega.{arith}
-use lib.Dec.{eqb}
 use lib.IntN.{ℤ}
 use lib.ListN.{length, take, length-append}
-use borrow.Author.Tests.{eqb-true, ne_eqb}
 use Rattle.bench_io.specs.Counts.{Moved}
 use Rattle.bench_parse.specs.Lines.{held_length}
 use Rattle.bench_lines.specs.Cutting as cutting
@@ -21,8 +19,10 @@ use Rattle.bench_rules.specs.Turning.{Lent}
 use Rattle.bench_state.specs.declared.Bench.{Bench}
 use Rattle.register.specs.Runs.{Event}
 use Rattle.bench_io.specs.Workers as workers
-use Rattle.bench_io.specs.Workers.{goes_on, at_end, failed_status, arrived, most_turns, left_with, TurnMade, text_of, Turns, Ran, RunLeft}
+use Rattle.bench_io.specs.Workers.{goes_on, at_end, arrived, most_turns, left_with, TurnMade, text_of, Turns, Ran, RunLeft}
 use Rattle.bench_io.specs.declared.Pass.{Pass}
+use Rattle.bench_io.specs.declared.Standing.{Standing}
+use Rattle.bench_io.specs.declared.Standing.TheVariants as standing
 use Rattle.bench_io.proofs.Laws.PassLaws.{calls_both, written_not_ended, last_not_on}
 use Rattle.bench_io.proofs.Laws.ReadLaws.{none_arrived}
 
@@ -59,7 +59,7 @@ record TurnsLed (p₀ : Pass) (line₀ : List ℕ) (l₀ : Lent) (out₀ : List 
 
 module _ (p₀ : Pass) (line₀ : List ℕ) (l₀ : Lent) (out₀ : List ℕ) (starts : p₀.status ≡ goes_on) where
   led_none : TurnsLed p₀ line₀ l₀ out₀ [] [] p₀ line₀ l₀ out₀
-  led_none = record { handed = []; calls = calls.none p₀.bench l₀ out₀; so_far = λ e. none line₀ p₀.held; all_lines = λ e. absurd (omega (arith, starts, e)) }
+  led_none = record { handed = []; calls = calls.none p₀.bench l₀ out₀; so_far = λ e. none line₀ p₀.held; all_lines = λ e. cc (starts, e) }
 
   led_more : {chunks : List (List ℕ)} {text line line' out out' : List ℕ} {p r : Pass} {l l' : Lent} (got : ℤ) (interrupted : Bool) (bytes : List ℕ)
       → TurnsLed p₀ line₀ l₀ out₀ chunks text p line l out → p.status ≡ goes_on → (t : TurnMade got interrupted bytes line p l out r line' l' out')
@@ -85,8 +85,8 @@ module _ (p₀ : Pass) (line₀ : List ℕ) (l₀ : Lent) (out₀ : List ℕ) (s
         calls =
             subst (λ (t : List ℕ). Calls p₀.bench l₀ out₀ s.handed t r.bench l out) (sym (append-nil text))
             (subst (λ (x : Bench). Calls p₀.bench l₀ out₀ s.handed text x l out) (sym b) s.calls);
-        so_far = λ g. absurd (omega (arith, f, g));
-        all_lines = λ g. absurd (omega (arith, f, g));
+        so_far = λ g. cc (f, g);
+        all_lines = λ g. cc (f, g);
       }
 
   turns_led : {chunks : List (List ℕ)} {text line out : List ℕ} {p : Pass} {l : Lent} → Turns p₀ line₀ l₀ out₀ chunks text p line l out
@@ -95,80 +95,53 @@ module _ (p₀ : Pass) (line₀ : List ℕ) (l₀ : Lent) (out₀ : List ℕ) (s
   turns_led (workers.next got interrupted bytes ts on moved t) = led_more got interrupted bytes (turns_led ts) on t
 
 -- A program that stands at the end of the input has played the lines of all bytes that came.
-pub record AllPlayed {line : List ℕ} {l : Lent} {out : List ℕ} {status : ℕ} {l' : Lent} {out' : List ℕ} (r : Ran line l out status l' out') : Type 0 where
+pub record AllPlayed {line : List ℕ} {l : Lent} {out : List ℕ} {status : Standing} {l' : Lent} {out' : List ℕ} (r : Ran line l out status l' out') : Type 0 where
   pub handed : List (List ℕ)
   pub calls : Calls r.first l out handed r.text r.last.bench l' out'
   pub all_lines : HandedOn line 0 r.chunks handed
 
-pub all_played : {line : List ℕ} {l : Lent} {out : List ℕ} {status : ℕ} {l' : Lent} {out' : List ℕ} (r : Ran line l out status l' out') → status ≡ at_end → AllPlayed r
+pub all_played : {line : List ℕ} {l : Lent} {out : List ℕ} {status : Standing} {l' : Lent} {out' : List ℕ} (r : Ran line l out status l' out') → status ≡ at_end → AllPlayed r
 all_played {line} {l} {out} r e =
     let led = turns_led (record { bench = r.first; held = 0; status = goes_on }) line l out refl r.turns in
     record { handed = led.handed; calls = led.calls; all_lines = led.all_lines (r.status-is ∙ e) }
 
--- The program so far. As long as turns are left it goes on.
-pub record Running (line₀ : List ℕ) (l₀ : Lent) (out₀ : List ℕ) (first : Bench) (line : List ℕ) (p : Pass) (l : Lent) (out : List ℕ) (left : ℕ) : Type 0 where
+-- The program after some turns.
+pub record Running (line₀ : List ℕ) (l₀ : Lent) (out₀ : List ℕ) (first : Bench) (line : List ℕ) (p : Pass) (l : Lent) (out : List ℕ) (done : ℕ) : Type 0 where
   pub chunks : List (List ℕ)
   pub text : List ℕ
   pub turns : Turns (record { bench = first; held = 0; status = goes_on }) line₀ l₀ out₀ chunks text p line l out
-  pub on : 0 < left → p.status ≡ goes_on
   pub within : p.status ≡ goes_on → p.held ≤ length line
-  pub count : p.status ≡ goes_on → length chunks + left ≡ most_turns
+  pub count : length chunks ≡ done
 
 pub running_none : (line : List ℕ) (l : Lent) (out : List ℕ) (first : Bench)
-    → Running line l out first line (record { bench = first; held = 0; status = goes_on }) l out most_turns
-running_none line l out first =
-    record { chunks = []; text = []; turns = workers.none; on = λ h. refl; within = λ e. omega arith; count = λ e. refl }
-
--- how many turns are left
-left_some : (turns left status : ℕ) → left ≡ cond (eqb status goes_on) (turns - 1) 0 → 0 < left → status ≡ goes_on
-left_some turns left status e h = go (eqb status goes_on) refl e
-  where
-    go : (a : Bool) → eqb status goes_on ≡ a → left ≡ cond a (turns - 1) 0 → status ≡ goes_on
-    go true t f = eqb-true status goes_on t
-    go false t f = absurd (omega (arith, f, h))
-
-left_one_less : (turns left status : ℕ) → left ≡ cond (eqb status goes_on) (turns - 1) 0 → status ≡ goes_on → left ≡ turns - 1
-left_one_less turns left status e s = rw s at e
-
-pub left_less : (turns left status : ℕ) → left ≡ cond (eqb status goes_on) (turns - 1) 0 → 0 < turns → left < turns
-left_less turns left status e h = go (eqb status goes_on) e
-  where
-    go : (a : Bool) → left ≡ cond a (turns - 1) 0 → left < turns
-    go true f = omega (arith, f, h)
-    go false f = omega (arith, f, h)
-
-pub left_going : (turns status : ℕ) → status ≡ goes_on → turns - 1 ≡ cond (eqb status goes_on) (turns - 1) 0
-left_going turns status e = rw e
-
-pub left_none : (turns status : ℕ) → (status ≡ goes_on → ⊥) → 0 ≡ cond (eqb status goes_on) (turns - 1) 0
-left_none turns status h = rw (ne_eqb status goes_on h)
+    → Running line l out first line (record { bench = first; held = 0; status = goes_on }) l out 0
+running_none line l out first = record { chunks = []; text = []; turns = workers.none; within = λ e. omega arith; count = refl }
 
 -- where a turn goes on, the held bytes are in the line
 turn_within : {got : ℤ} {interrupted : Bool} {bytes line out line' out' : List ℕ} {p r : Pass} {l l' : Lent}
     → TurnMade got interrupted bytes line p l out r line' l' out' → r.status ≡ goes_on → r.held ≤ length line'
 turn_within (workers.came e q) g = q.within
 turn_within (workers.ended e q) g = absurd (last_not_on q.written _ q.status-is g)
-turn_within (workers.failed e f b) g = absurd (omega (arith, f, g))
+turn_within (workers.failed e f b) g = cc (f, g)
 
 module _ (line₀ : List ℕ) (l₀ : Lent) (out₀ : List ℕ) (first : Bench) where
-  pub running_more : (line : List ℕ) (p : Pass) (l : Lent) (out : List ℕ) (turns : ℕ) (answer got : ℤ) (interrupted : Bool) (most : ℕ) (bytes : List ℕ)
-      (r : Pass) (line' : List ℕ) (l' : Lent) (out' : List ℕ) (left : ℕ)
-      → Running line₀ l₀ out₀ first line p l out turns → 0 < turns → Moved most answer → got ≡ answer → length bytes ≡ most → TurnMade got interrupted bytes line p l out r line' l' out'
-      → left ≡ cond (eqb r.status goes_on) (turns - 1) 0 → Running line₀ l₀ out₀ first line' r l' out' left
-  running_more line p l out turns answer got interrupted most bytes r line' l' out' left s h m a k t f =
+  pub running_more : (line : List ℕ) (p : Pass) (l : Lent) (out : List ℕ) (done : ℕ) (got : ℤ) (interrupted : Bool) (most : ℕ) (bytes : List ℕ)
+      (r : Pass) (line' : List ℕ) (l' : Lent) (out' : List ℕ)
+      → Running line₀ l₀ out₀ first line p l out done → p.status ≡ goes_on → Moved most got → length bytes ≡ most
+      → TurnMade got interrupted bytes line p l out r line' l' out' → Running line₀ l₀ out₀ first line' r l' out' (done + 1)
+  running_more line p l out done got interrupted most bytes r line' l' out' s on m k t =
       record {
         chunks = s.chunks ++ take (arrived got) bytes ∷ [];
         text = s.text ++ text_of t;
-        turns = workers.next got interrupted bytes s.turns (s.on h) (subst (λ (j : ℕ). Moved j got) (sym k) (subst (Moved most) (sym a) m)) t;
-        on = left_some turns left r.status f;
+        turns = workers.next got interrupted bytes s.turns on (subst (λ (j : ℕ). Moved j got) (sym k) m) t;
         within = turn_within t;
-        count = λ e. omega (arith, s.count (s.on h), h, left_one_less turns left r.status f e, length-append s.chunks (take (arrived got) bytes ∷ []));
+        count = omega (arith, s.count, length-append s.chunks (take (arrived got) bytes ∷ []));
       }
 
-  pub running_ran : (line : List ℕ) (p : Pass) (l : Lent) (out : List ℕ) (left : ℕ) → ((k : Lent) (events : List Event) → stage_of first k events ≡ waiting)
+  pub running_ran : (line : List ℕ) (p : Pass) (l : Lent) (out : List ℕ) (done : ℕ) → ((k : Lent) (events : List Event) → stage_of first k events ≡ waiting)
       → bench_refused first images_length kept_length numbers_length bytes_length text_length ≡ 0
-      → Running line₀ l₀ out₀ first line p l out left → left ≤ 0 → Ran line₀ l₀ out₀ p.status l out
-  running_ran line p l out left w a s z =
+      → Running line₀ l₀ out₀ first line p l out done → (p.status ≡ goes_on → done ≡ most_turns) → Ran line₀ l₀ out₀ p.status l out
+  running_ran line p l out done w a s z =
       record {
         first = first;
         no-set = w;
@@ -179,11 +152,11 @@ module _ (line₀ : List ℕ) (l₀ : Lent) (out₀ : List ℕ) (first : Bench) 
         line' = line;
         turns = s.turns;
         status-is = refl;
-        stopped = λ e. omega (arith, s.count e, z);
+        stopped = λ e. s.count ∙ z e;
       }
 
 -- the program's own buffers have the right lengths
-pub run_left : (line : List ℕ) (l : Lent) (out : List ℕ) (status : ℕ) (l' : Lent) (out' : List ℕ) (left : ℕ) → Ran line l out status l' out' → left ≡ left_with status
+pub run_left : (line : List ℕ) (l : Lent) (out : List ℕ) (status : Standing) (l' : Lent) (out' : List ℕ) (left : ℕ) → Ran line l out status l' out' → left ≡ left_with status
     → held_length ≡ length line → images_length ≡ length l.images → kept_length ≡ length l.kept → numbers_length ≡ length l.numbers
     → bytes_length ≡ length l.bytes → text_length ≡ length out → RunLeft left
 run_left line l out status l' out' left r e h i k n y o =
@@ -207,8 +180,18 @@ run_left line l out status l' out' left r e h i k n y o =
 -- the program leaves with 0 or 1
 pub left_low : (left : ℕ) → RunLeft left → left ≤ 1
 unfolding left_with
-left_low left r = go (eqb r.status at_end) r.left_is
+left_low left r = go r.status r.left_is
   where
-    go : (a : Bool) → left ≡ cond a 0 failed_status → left ≤ 1
-    go true e = omega (arith, e)
-    go false e = omega (arith, e)
+    go : (status : Standing) → left ≡ left_with status → left ≤ 1
+    go standing.GoesOn e = omega (arith, e)
+    go standing.Ended e = omega (arith, e)
+    go standing.CannotRead e = omega (arith, e)
+    go standing.CannotWrite e = omega (arith, e)
+
+-- who leaves with 0 stands at the end of the input
+pub ended_well : (status : Standing) → 0 ≡ left_with status → status ≡ at_end
+unfolding left_with
+ended_well standing.GoesOn e = absurd (omega (arith, e))
+ended_well standing.Ended e = refl
+ended_well standing.CannotRead e = absurd (omega (arith, e))
+ended_well standing.CannotWrite e = absurd (omega (arith, e))

@@ -11,11 +11,12 @@ use Rattle.bench_rules.specs.Turning.{Lent}
 use Rattle.bench_io.specs.Workers.{goes_on, at_end, cannot_read, cannot_write, write_status, read_status, arrived, left_with}
 use Rattle.bench_io.specs.Workers.{TurnMade, came, ended, failed, Turns, none, next}
 use Rattle.bench_io.specs.declared.Pass.{Pass}
+use Rattle.bench_io.specs.declared.Standing.{Standing}
 use Rattle.bench_io.proofs.Laws.PassLaws.{last_not_on}
 use Rattle.bench_io.specs.StopTheorem.{answers, GoOn, start, then, Stops, at_the_end, not_read, not_written, used_up, TheStatusTellsWhy}
 
 -- what the last answer was, by how the program stands
-data Ends (l : List ℤ) : ℕ → Type 0 where
+data Ends (l : List ℤ) : Standing → Type 0 where
   on : Ends l goes_on
   zero_read : (before : List ℤ) → GoOn before → l ≡ before ++ pos 0 ∷ [] → Ends l at_end
   none_read : (before : List ℤ) → GoOn before → l ≡ before ++ negsuc 0 ∷ [] → Ends l cannot_read
@@ -24,27 +25,27 @@ data Ends (l : List ℤ) : ℕ → Type 0 where
 end_answer_lem : (got : ℤ) (interrupted : Bool) → read_status got interrupted ≡ at_end → got ≡ pos 0
 unfolding read_status
 end_answer_lem (pos zero) interrupted e = refl
-end_answer_lem (pos (suc k)) interrupted e = absurd (omega (arith, e))
-end_answer_lem (negsuc k) true e = absurd (omega (arith, e))
-end_answer_lem (negsuc k) false e = absurd (omega (arith, e))
+end_answer_lem (pos (suc k)) interrupted e = cc e
+end_answer_lem (negsuc k) true e = cc e
+end_answer_lem (negsuc k) false e = cc e
 
 failed_answer : (got : ℤ) (interrupted : Bool) (most : ℕ) → read_status got interrupted ≡ cannot_read → Moved most got → got ≡ negsuc 0
 unfolding read_status
-failed_answer (pos zero) interrupted most e m = absurd (omega (arith, e))
-failed_answer (pos (suc k)) interrupted most e m = absurd (omega (arith, e))
+failed_answer (pos zero) interrupted most e m = cc e
+failed_answer (pos (suc k)) interrupted most e m = cc e
 failed_answer (negsuc k) interrupted most e m = ap negsuc m
 
 module _ (before : List ℤ) (b : GoOn before) where
-  by_writing : (l : List ℤ) (written : Bool) (status : ℕ) → status ≡ write_status written → Ends l status
+  by_writing : (l : List ℤ) (written : Bool) (status : Standing) → status ≡ write_status written → Ends l status
   unfolding write_status
   by_writing l true status e = subst (Ends l) (sym e) on
   by_writing l false status e = subst (Ends l) (sym e) none_written
 
-  by_ending : (got : ℤ) (written : Bool) (status : ℕ) → got ≡ pos 0 → status ≡ cond written at_end cannot_write → Ends (before ++ got ∷ []) status
+  by_ending : (got : ℤ) (written : Bool) (status : Standing) → got ≡ pos 0 → status ≡ cond written at_end cannot_write → Ends (before ++ got ∷ []) status
   by_ending got true status g e = subst (Ends (before ++ got ∷ [])) (sym e) (zero_read before b (ap (λ (z : ℤ). before ++ z ∷ []) g))
   by_ending got false status g e = subst (Ends (before ++ got ∷ [])) (sym e) none_written
 
-  by_failing : (got : ℤ) (status : ℕ) → got ≡ negsuc 0 → status ≡ cannot_read → Ends (before ++ got ∷ []) status
+  by_failing : (got : ℤ) (status : Standing) → got ≡ negsuc 0 → status ≡ cannot_read → Ends (before ++ got ∷ []) status
   by_failing got status g e = subst (Ends (before ++ got ∷ [])) (sym e) (none_read before b (ap (λ (z : ℤ). before ++ z ∷ []) g))
 
   by_turn : {got : ℤ} {interrupted : Bool} {chunk line out line' out' : List ℕ} {p r : Pass} {l l' : Lent} → Moved (length chunk) got
@@ -57,7 +58,7 @@ went_on : {got : ℤ} {interrupted : Bool} {chunk line out line' out' : List ℕ
     → TurnMade got interrupted chunk line p l out r line' l' out' → r.status ≡ goes_on → read_status got interrupted ≡ goes_on
 went_on (came e q) g = e
 went_on (ended e q) g = absurd (last_not_on q.written _ q.status-is g)
-went_on (failed e f b) g = absurd (omega (arith, f, g))
+went_on (failed e f b) g = cc (f, g)
 
 -- a chain after which the program goes on has only such answers
 turns_on : {p₀ : Pass} {l₀ : Lent} {line₀ out₀ : List ℕ} {p : Pass} {l : Lent} {text line out : List ℕ} {chunks : List (List ℕ)}
@@ -84,7 +85,7 @@ pub the_status_tells_why : TheStatusTellsWhy
 unfolding left_with
 the_status_tells_why left r = go r.status (subst (Ends (answers r.ran.turns)) r.ran.status-is (turns_end refl r.ran.turns)) refl
   where
-    go : (status : ℕ) → Ends (answers r.ran.turns) status → r.status ≡ status → Stops r
+    go : (status : Standing) → Ends (answers r.ran.turns) status → r.status ≡ status → Stops r
     go status on q = used_up (answers_many r.ran.turns ∙ r.ran.stopped q) (r.left_is ∙ ap left_with q)
     go status (zero_read before b e) q = at_the_end before b e (r.left_is ∙ ap left_with q)
     go status (none_read before b e) q = not_read before b e (r.left_is ∙ ap left_with q)

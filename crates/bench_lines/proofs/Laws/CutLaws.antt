@@ -1,20 +1,22 @@
--- One byte of a chunk after the other.
-use mathlib.Core.Path.{◌≡◌, refl, sym, ap, ap₂, subst, ◌∙◌}
-use mathlib.Core.Bool.{Bool, true, false, cond, ◌||◌}
-use mathlib.Core.List.{List, [], ◌∷◌, ◌++◌}
-use Prim.Native.Nat.{ℕ, suc, ◌+◌, ◌-◌, ◌≤◌, ◌<◌}
-use native.Mathlib.Decide.{dec_le}
-use native.Mathlib.Numerals.{add-one}
+-- One call: the search for a newline, the bytes kept, and what callers use of it.
+use mathlib.Core.Path.{◌≡◌, refl, sym, ap, subst, ◌∙◌}
+use mathlib.Core.Bool.{Bool, true, false, cond, not, ◌||◌}
+use mathlib.Core.List.{List, [], ◌∷◌}
+use Prim.Native.Nat.{ℕ, suc, min, ◌+◌, ◌-◌, ◌≤◌, ◌<◌}
 use native.Mathlib.Omega.{arith}
-use lib.Dec.{eqb}
-use lib.ListN.{length, get_or, set, take, drop, length-set, length-take, drop_of_length-le}
-use lib.Seq.{drop-cons, take-nil, set_out, take-suc-set, drop-set-lt, append_snoc, paste-zero}
-use borrow.Author.Tests.{eq-eqb, ne_eqb, lt-ltb, le-ltb}
+use lib.Dec.{eqb, ltb, leb-suc-suc}
+use lib.ListN.{length, get_or, take, drop, length-take, length-drop, drop_of_length-le}
+use lib.Seq.{drop-cons, take-nil, take_all, length-take-le, paste-zero}
+use borrow.Author.Tests.{lt-ltb, ltb-true, ltb-false}
+use borrow.Rule.Slice.PartMut.{put_mid}
+use Rattle.std.proofs.Common.{Option, Some, None}
+use Rattle.std.proofs.lemmas.List.{take_min, take_rest}
+use Rattle.std.specs.List.{position_or_len}
 use Rattle.byte_lists.specs.Lists.{put}
-use Rattle.byte_lists.proofs.Laws.PutLaws.{put_is, put_length}
+use Rattle.byte_lists.proofs.Laws.PutLaws.{put_mid_lem, put_length}
 use Rattle.bench_print.specs.Printing.{newline}
 use Rattle.bench_lines.specs.Cutting.{before_newline, has_newline, done_with, fitting, CutOff}
-use Rattle.bench_lines.specs.Workers.{Kept}
+use Rattle.bench_lines.specs.Workers.{Kept, NewlineIn}
 use Rattle.bench_lines.specs.declared.Cut.{Cut}
 
 put_none : (at : ℕ) (l : List ℕ) → l ≡ put at [] l
@@ -42,119 +44,103 @@ cut_end chunk line at held h =
     subst (λ (rest : List ℕ). CutOff rest at line held (record { next = at; held = held; whole = false }) line) (sym e)
     (nothing_moved [] at line held (record { next = at; held = held; whole = false }) refl (omega arith) refl refl)
 
--- a newline
-pub cut_newline : (chunk line : List ℕ) (at held : ℕ) → at < length chunk → get_or chunk at 0 ≡ newline
-    → CutOff (drop at chunk) at line held (record { next = at + 1; held = held; whole = true }) line
-unfolding done_with before_newline has_newline
-cut_newline chunk line at held h n =
-    subst (λ (rest : List ℕ). CutOff rest at line held (record { next = at + 1; held = held; whole = true }) line) (sym (drop-cons chunk at 0 h))
-    (here (get_or chunk at 0) (drop (suc at) chunk) n)
+-- What the search for a newline gives.
+before_position : (t : List ℕ) → before_newline t ≡ take (position_or_len (λ x. eqb x newline) t) t
+unfolding before_newline
+before_position [] = refl
+before_position (x ∷ t) = go (eqb x newline) (before_position t)
   where
-    here : (x : ℕ) (rest : List ℕ) → x ≡ newline → CutOff (x ∷ rest) at line held (record { next = at + 1; held = held; whole = true }) line
-    here x rest e =
-        let t = eq-eqb x newline e in
-        nothing_moved (x ∷ rest) at line held (record { next = at + 1; held = held; whole = true }) (rw t refl) (rw t (omega arith)) refl (rw t refl)
+    go : (b : Bool) → before_newline t ≡ take (position_or_len (λ x. eqb x newline) t) t
+        → cond b [] (x ∷ before_newline t) ≡ take (cond (not b) (1 + position_or_len (λ x. eqb x newline) t) 0) (x ∷ t)
+    go true e = refl
+    go false e =
+        let q : suc (position_or_len (λ x. eqb x newline) t) ≡ 1 + position_or_len (λ x. eqb x newline) t = omega arith in
+        ap (λ (l : List ℕ). x ∷ l) e ∙ ap (λ (n : ℕ). take n (x ∷ t)) q
 
--- a byte that is no newline is kept, where there is room
-fits_more : (room held x : ℕ) (t : List ℕ) → held < room → fitting room held (x ∷ t) ≡ x ∷ fitting room (held + 1) t
-fits_more room held x t h = ap (λ (n : ℕ). take n (x ∷ t)) (let e : room - held ≡ suc (room - (held + 1)) = omega arith in e)
+has_position : (t : List ℕ) → has_newline t ≡ ltb (position_or_len (λ x. eqb x newline) t) (length t)
+unfolding has_newline
+has_position [] = refl
+has_position (x ∷ t) = go (eqb x newline) (has_position t)
+  where
+    go : (b : Bool) → has_newline t ≡ ltb (position_or_len (λ x. eqb x newline) t) (length t)
+        → (b || has_newline t) ≡ ltb (cond (not b) (1 + position_or_len (λ x. eqb x newline) t) 0) (suc (length t))
+    go true e = sym (lt-ltb 0 (suc (length t)) (omega arith))
+    go false e =
+        let q : suc (position_or_len (λ x. eqb x newline) t) ≡ 1 + position_or_len (λ x. eqb x newline) t = omega arith in
+        e ∙ sym (leb-suc-suc (suc (position_or_len (λ x. eqb x newline) t)) (length t)) ∙ ap (λ (n : ℕ). ltb n (suc (length t))) q
 
-fits_none : (room held : ℕ) (t : List ℕ) → room ≤ held → fitting room held t ≡ []
-fits_none room held t h = ap (λ (n : ℕ). take n t) (let e : room - held ≡ 0 = omega arith in e)
+pub newline_found : (t : List ℕ) (r : Option ℕ)
+    → r ≡ cond (ltb (position_or_len (λ x. eqb x newline) t) (length t)) (Some (position_or_len (λ x. eqb x newline) t)) None
+    → NewlineIn t r
+newline_found t r e = go (ltb (position_or_len (λ x. eqb x newline) t) (length t)) refl e
+  where
+    go : (b : Bool) → ltb (position_or_len (λ x. eqb x newline) t) (length t) ≡ b
+        → r ≡ cond b (Some (position_or_len (λ x. eqb x newline) t)) None → NewlineIn t r
+    go true f e =
+        subst (NewlineIn t) (sym e)
+        (before_position t, has_position t ∙ f, ltb-true (position_or_len (λ x. eqb x newline) t) (length t) f)
+    go false f e =
+        subst (NewlineIn t) (sym e)
+        (before_position t ∙ take_all (position_or_len (λ x. eqb x newline) t) t (ltb-false (position_or_len (λ x. eqb x newline) t) (length t) f), has_position t ∙ f)
 
-put_more : (held x : ℕ) (t line : List ℕ) → held < length line → put held (x ∷ t) line ≡ put (held + 1) t (set line held x)
-put_more held x t line h =
-    let s : held + 1 ≡ suc held = add-one held in
-    let front : take (held + 1) (set line held x) ≡ take held line ++ (x ∷ []) = ap (λ (n : ℕ). take n (set line held x)) s ∙ take-suc-set line held x h in
-    let behind : drop (held + length (x ∷ t)) line ≡ drop (held + 1 + length t) (set line held x)
-    = sym (drop-set-lt (held + length (x ∷ t)) line held x (omega arith))
-    ∙ ap (λ (n : ℕ). drop n (set line held x)) (let e : held + length (x ∷ t) ≡ held + 1 + length t = omega arith in e) in
-    put_is held (x ∷ t) line
-    ∙ ap (λ (d : List ℕ). take held line ++ (x ∷ (t ++ d))) behind
-    ∙ sym (append_snoc (take held line) x (t ++ drop (held + 1 + length t) (set line held x)))
-    ∙ ap (λ (f : List ℕ). f ++ (t ++ drop (held + 1 + length t) (set line held x))) (sym front)
-    ∙ sym (put_is (held + 1) t (set line held x))
-
-module _ (x : ℕ) (rest : List ℕ) (n : x ≡ newline → ⊥) where
-  more_before : before_newline (x ∷ rest) ≡ x ∷ before_newline rest
-  unfolding before_newline
-  more_before = rw (ne_eqb x newline n) refl
-
-  more_newline : has_newline (x ∷ rest) ≡ has_newline rest
-  unfolding has_newline
-  more_newline = rw (ne_eqb x newline n) refl
-
-  more_done : done_with (x ∷ rest) ≡ 1 + done_with rest
-  unfolding done_with
-  more_done = rw (more_before, more_newline) (omega arith)
-
-  -- with room for it, and without
-  byte_fits : (line line' l : List ℕ) (at held k : ℕ) (r : Cut) → held < length line → Kept line held x k line' → CutOff rest (at + 1) line' k r l
-      → CutOff (x ∷ rest) at line held r l
-  byte_fits line line' l at held k r h kept c =
-      let t = before_newline rest in
-      let room : length line' ≡ length line = ap length kept.line-is ∙ length-set line held x in
-      let next : k ≡ held + 1 = kept.held-is ∙ rw (lt-ltb held (length line) h) refl in
-      let taken : fitting (length line') k t ≡ fitting (length line) (held + 1) t = ap₂ (λ (n j : ℕ). fitting n j t) room next in
-      let all : fitting (length line) held (before_newline (x ∷ rest)) ≡ x ∷ fitting (length line') k t
-      = ap (fitting (length line) held) more_before ∙ fits_more (length line) held x t h ∙ ap (λ (y : List ℕ). x ∷ y) (sym taken) in
-      record {
-        next-is = let d = more_done in omega (arith, c.next-is, d);
-        held-is = let a = ap length all in omega (arith, c.held-is, next, a);
-        whole_is = c.whole_is ∙ sym more_newline;
-        line-is =
-            c.line-is
-            ∙ ap₂ (λ (j : ℕ) (y : List ℕ). put j (fitting (length line') k t) y) next kept.line-is
-            ∙ sym (put_more held x (fitting (length line') k t) line h)
-            ∙ ap (λ (y : List ℕ). put held y line) (sym all);
-      }
-
-  byte_lost : (line line' l : List ℕ) (at held k : ℕ) (r : Cut) → length line ≤ held → Kept line held x k line' → CutOff rest (at + 1) line' k r l
-      → CutOff (x ∷ rest) at line held r l
-  byte_lost line line' l at held k r h kept c =
-      let t = before_newline rest in
-      let same : line' ≡ line = kept.line-is ∙ set_out line held x h in
-      let stays : k ≡ held = kept.held-is ∙ rw (le-ltb held (length line) h) refl in
-      let none : fitting (length line') k t ≡ [] = fits_none (length line') k t (let e = ap length same in omega (arith, e, stays)) in
-      let none-too : fitting (length line) held (before_newline (x ∷ rest)) ≡ [] = fits_none (length line) held (before_newline (x ∷ rest)) h in
-      record {
-        next-is = let d = more_done in omega (arith, c.next-is, d);
-        held-is = let a = ap length none in let b = ap length none-too in omega (arith, c.held-is, stays, a, b);
-        whole_is = c.whole_is ∙ sym more_newline;
-        line-is =
-            c.line-is
-            ∙ ap₂ (λ (j : ℕ) (y : List ℕ). put j (fitting (length line') k t) y) stays same
-            ∙ ap (λ (y : List ℕ). put held y line) (none ∙ sym none-too);
-      }
-
-  cut_byte : (line line' l : List ℕ) (at held k : ℕ) (r : Cut) → Kept line held x k line' → CutOff rest (at + 1) line' k r l
-      → CutOff (x ∷ rest) at line held r l
-  cut_byte line line' l at held k r kept c = by (dec_le (length line) held)
-    where
-      by : Dec (length line ≤ held) → CutOff (x ∷ rest) at line held r l
-      by (yes h) = byte_lost line line' l at held k r h kept c
-      by (no h) = byte_fits line line' l at held k r (omega arith) kept c
-
--- What is still to be cut off gives the whole.
-pub record Still (chunk : List ℕ) (from : ℕ) (old : List ℕ) (held : ℕ) (line : List ℕ) (at k : ℕ) : Type 0 where
-  pub size : length line ≡ length old
-  pub gives : (r : Cut) (l : List ℕ) → CutOff (drop at chunk) at line k r l → CutOff (drop from chunk) from old held r l
-
-pub still_all : (chunk : List ℕ) (from : ℕ) (old : List ℕ) (held : ℕ) → Still chunk from old held old from held
-still_all chunk from old held = record { size = refl; gives = λ r l c. c }
-
-pub still_more : (chunk : List ℕ) (from : ℕ) (old : List ℕ) (held : ℕ) (line line' : List ℕ) (at k k' : ℕ) → at < length chunk
-    → (get_or chunk at 0 ≡ newline → ⊥) → Kept line k (get_or chunk at 0) k' line' → Still chunk from old held line at k
-    → Still chunk from old held line' (at + 1) k'
-still_more chunk from old held line line' at k k' h n kept s =
+-- Bytes kept: none, or those that there is room for.
+pub kept_none : (line : List ℕ) (held : ℕ) (bytes : List ℕ) → min (length line - held) (length bytes) ≡ 0 → Kept line held bytes held line
+kept_none line held bytes e =
+    let none : fitting (length line) held bytes ≡ [] = sym (take_min (length line - held) bytes) ∙ ap (λ (n : ℕ). take n bytes) e in
     record {
-      size = ap length kept.line-is ∙ length-set line k (get_or chunk at 0) ∙ s.size;
-      gives = λ r l c.
-          s.gives r l
-          (subst (λ (rest : List ℕ). CutOff rest at line k r l) (sym (drop-cons chunk at 0 h))
-          (cut_byte (get_or chunk at 0) (drop (suc at) chunk) n line line' l at k k' r kept
-          (subst (λ (j : ℕ). CutOff (drop j chunk) (at + 1) line' k' r l) (add-one at) c)));
+      held-is = let m = ap length none in omega (arith, m);
+      line-is = put_none held line ∙ ap (λ (x : List ℕ). put held x line) (sym none);
     }
+
+pub kept_some : (line : List ℕ) (held : ℕ) (bytes x : List ℕ) (count : ℕ) → count ≡ min (length line - held) (length bytes) → x ≡ take count bytes
+    → Kept line held bytes (held + count) (put_mid held (held + count - held) line x)
+kept_some line held bytes x count e q =
+    let all : x ≡ fitting (length line) held bytes = q ∙ ap (λ (n : ℕ). take n bytes) e ∙ take_min (length line - held) bytes in
+    let long : length x ≡ count = ap length q ∙ length-take-le count bytes (omega arith) in
+    record {
+      held-is = let m = ap length all in omega (arith, m, long);
+      line-is = put_mid_lem held (held + count) line x (omega arith) (omega (arith, long)) ∙ ap (λ (y : List ℕ). put held y line) all;
+    }
+
+-- up to a newline, and up to the chunk's end
+cut_at : (rest : List ℕ) (from : ℕ) (line : List ℕ) (held k r : ℕ) (line' : List ℕ) → NewlineIn rest (Some k) → Kept line held (take k rest) r line'
+    → CutOff rest from line held (record { next = from + k + 1; held = r; whole = true }) line'
+unfolding done_with
+cut_at rest from line held k r line' n kept =
+    record {
+      next-is = rw (n.0, n.1) (omega (arith, length-take-le k rest (let h = n.2 in omega arith)));
+      held-is = kept.held-is ∙ ap (λ (b : List ℕ). held + length (fitting (length line) held b)) (sym n.0);
+      whole_is = sym n.1;
+      line-is = kept.line-is ∙ ap (λ (b : List ℕ). put held (fitting (length line) held b) line) (sym n.0);
+    }
+
+cut_all : (rest : List ℕ) (from : ℕ) (line : List ℕ) (held r : ℕ) (line' : List ℕ) → NewlineIn rest None → Kept line held rest r line'
+    → CutOff rest from line held (record { next = from + length rest; held = r; whole = false }) line'
+unfolding done_with
+cut_all rest from line held r line' n kept =
+    record {
+      next-is = rw (n.0, n.1) (omega arith);
+      held-is = kept.held-is ∙ ap (λ (b : List ℕ). held + length (fitting (length line) held b)) (sym n.0);
+      whole_is = sym n.1;
+      line-is = kept.line-is ∙ ap (λ (b : List ℕ). put held (fitting (length line) held b) line) (sym n.0);
+    }
+
+module _ (chunk : List ℕ) (from : ℕ) (line : List ℕ) (held : ℕ) where
+  pub cut_newline : (k r : ℕ) (line' : List ℕ) → NewlineIn (take (length chunk - from) (drop from chunk)) (Some k)
+      → Kept line held (take k (take (length chunk - from) (drop from chunk))) r line'
+      → CutOff (drop from chunk) from line held (record { next = from + k + 1; held = r; whole = true }) line'
+  cut_newline k r line' n kept =
+      subst (λ (rest : List ℕ). CutOff rest from line held (record { next = from + k + 1; held = r; whole = true }) line') (take_rest chunk from)
+      (cut_at (take (length chunk - from) (drop from chunk)) from line held k r line' n kept)
+
+  pub cut_rest : (r : ℕ) (line' : List ℕ) → from ≤ length chunk → NewlineIn (take (length chunk - from) (drop from chunk)) None
+      → Kept line held (take (length chunk - from) (drop from chunk)) r line'
+      → CutOff (drop from chunk) from line held (record { next = length chunk; held = r; whole = false }) line'
+  cut_rest r line' h n kept =
+      let e : from + length (drop from chunk) ≡ length chunk = omega (arith, length-drop from chunk) in
+      subst (λ (next : ℕ). CutOff (drop from chunk) from line held (record { next = next; held = r; whole = false }) line') e
+      (subst (λ (rest : List ℕ). CutOff rest from line held (record { next = from + length rest; held = r; whole = false }) line') (take_rest chunk from)
+      (cut_all (take (length chunk - from) (drop from chunk)) from line held r line' n kept))
 
 -- What callers use of a call: the buffer keeps its length, and the held bytes fit into it; a call before the chunk's end goes on.
 module _ (rest line : List ℕ) (held at : ℕ) (r : Cut) (line' : List ℕ) (h : held ≤ length line) (c : CutOff rest at line held r line') where

@@ -1,12 +1,10 @@
 -- Calls one after the other are the script.
 use mathlib.Core.Path.{◌≡◌, refl, ap, ap₂, subst, ◌∙◌}
-use mathlib.Core.Bool.{Bool, true, false, cond}
 use mathlib.Core.List.{List, [], ◌∷◌, ◌++◌, map, flatten}
 use Prim.Native.Nat.{ℕ, ◌+◌}
 use native.Mathlib.Omega.{arith}
 use lib.ListN.{length, take}
-use lib.Dec.{eqb}
-use borrow.Author.Tests.{eq-eqb, eqb-true}
+use borrow.Author.Tests.{eq-eqb}
 use Rattle.bench_parse.specs.Lines.{reads}
 use Rattle.bench_print.proofs.Laws.WrittenLaws.{written_front}
 use Rattle.bench_rules.specs.Play.{Stage, waiting, events_of, Turn, turn}
@@ -23,8 +21,7 @@ use Rattle.bench_limits.specs.Limits.{kept_length, images_length, numbers_length
 use Rattle.bench_lines.specs.Cutting.{lines}
 use Rattle.bench_lines.proofs.Laws.CuttingLaws.{cutting_gives_the_lines}
 use Rattle.bench_player.proofs.Laws.HeldLaws.{reads_held}
-use Rattle.bench_io.specs.Workers.{at_end, failed_status, left_with}
-use Rattle.bench_io.proofs.Laws.ProgramLaws.{all_played}
+use Rattle.bench_io.proofs.Laws.ProgramLaws.{all_played, ended_well}
 use Rattle.bench_order.specs.CallsTheorem.{CallsAreTheScript, CutCallsAreTheScript, ProgramPlaysTheScript}
 
 -- one call is one turn, and prints its text
@@ -98,18 +95,9 @@ not_refused : (b : Bench) (l : Lent) (out : List ℕ) → length l.images ≡ im
     → bench_refused b images_length kept_length numbers_length bytes_length text_length ≡ 0 → refusal_of b l out ≡ 0
 not_refused b l out i k n y o e = rw (i, k, n, y, o) e
 
--- who leaves with 0 stands at the end of the input
-at_the_end : (status : ℕ) → 0 ≡ left_with status → status ≡ at_end
-unfolding left_with
-at_the_end status e = go (eqb status at_end) refl e
-  where
-    go : (a : Bool) → eqb status at_end ≡ a → 0 ≡ cond a 0 failed_status → status ≡ at_end
-    go true h f = eqb-true status at_end h
-    go false h f = absurd (omega (arith, f))
-
 pub program_plays_the_script : ProgramPlaysTheScript
 program_plays_the_script r =
     let c = r.ran in
-    let all = all_played c (at_the_end r.status r.left_is) in
+    let all = all_played c (ended_well r.status r.left_is) in
     cut_calls_are_the_script r.line c.chunks all.handed c.first c.last.bench r.l r.l' r.out r.out' c.text r.line-long all.all_lines
     (not_refused c.first r.l r.out r.images-long r.kept-long r.numbers-long r.bytes-long r.out-long c.right) (c.no-set r.l []) all.calls

@@ -13,8 +13,8 @@ use Rattle.message.specs.declared.Message.{Message}
 use Rattle.message.specs.declared.Reply.{Reply}
 use Rattle.brick.specs.Receive.{Outcome}
 use Rattle.volume.specs.Rows.{row_outcome}
-use Rattle.brick.specs.declared.Given.{Given}
-use Rattle.brick.specs.declared.Given.TheVariants.{Answered, Silent, Refused}
+use Rattle.brick.specs.Receive.{Given}
+use Rattle.brick.specs.Receive.{Answered, Silent, Refused}
 use Rattle.coord_apply.specs.Answers.{Step, refused, went, Went}
 use Rattle.coordinator.specs.Routines.{write_step}
 use Rattle.order.specs.Claim.{Ending, Seen}

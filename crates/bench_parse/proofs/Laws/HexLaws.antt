@@ -5,12 +5,11 @@ use mathlib.Core.List.{List, [], ◌∷◌}
 use Prim.Native.Nat.{ℕ, zero, suc, ◌+◌, ◌-◌, ◌*◌, ◌/◌, ◌≤◌, ◌<◌}
 use native.Mathlib.Nat.{not-suc-le-zero}
 use native.Mathlib.Decide.{ℕ_discrete}
-use native.Mathlib.Numerals.{add-one}
 use native.Mathlib.Omega.{arith}
 use lib.Dec.{eqb, leb}
 use lib.Arith.{lt_of_le-ne}
 use lib.ListN.{length, get_or, take, drop, set, length-set, length-drop, drop_of_length-le}
-use lib.Seq.{drop-cons, ext_get_or, get_or-drop, get_or-set_same, get_or-set_other}
+use lib.Seq.{ext_get_or, get_or-drop, get_or-set_same, get_or-set_other}
 use borrow.Author.Tests.{ne_eqb, eqb-true, le-leb, leb-true}
 use Rattle.bench_parse.specs.Lines.{space, every, longer, words, is_digit, is_lower, is_upper, is_hex, hex_value, hex_word, bytes_of}
 use Rattle.bench_parse.specs.Workers.{words_from}
@@ -18,44 +17,12 @@ use Rattle.bench_parse.specs.Workers.{word_length, HexesFrom, hex_alone}
 use Rattle.bench_parse.proofs.Laws.NumeralLaws.{clash, and_true}
 use Rattle.bench_parse.proofs.Laws.WordLaws.{from_here, words_split}
 use Rattle.byte_lists.specs.Little.{Bytes}
+use Rattle.std.specs.List.{list_all}
 
--- The ways through the tests of a byte; b, c and d are what they gave.
-pub hex_digit_lem : (x : ℕ) (b : Bool) → b ≡ (leb 48 x && leb x 57) → b ≡ true → true ≡ is_hex x
-unfolding is_hex is_digit
-hex_digit_lem x b e t = rw (← e, t)
-
-pub hex_lower : (x : ℕ) (b c : Bool) → b ≡ (leb 48 x && leb x 57) → b ≡ false → c ≡ (leb 97 x && leb x 102) → c ≡ true → true ≡ is_hex x
-unfolding is_hex is_digit is_lower
-hex_lower x b c e t f u = rw (← e, ← f, t, u)
-
-pub hex_upper : (x : ℕ) (b c d : Bool) → b ≡ (leb 48 x && leb x 57) → b ≡ false → c ≡ (leb 97 x && leb x 102) → c ≡ false
-    → d ≡ (leb 65 x && leb x 70) → d ≡ is_hex x
-unfolding is_hex is_digit is_lower is_upper
-hex_upper x b c d e t f u g = g ∙ rw (← e, ← f, t, u)
-
-pub bounds : (low high x : ℕ) (b : Bool) → b ≡ (leb low x && leb x high) → b ≡ true → (low ≤ x) × (x ≤ high)
+bounds : (low high x : ℕ) (b : Bool) → b ≡ (leb low x && leb x high) → b ≡ true → (low ≤ x) × (x ≤ high)
 bounds low high x b e t =
     let p = and_true (leb low x) (leb x high) (sym e ∙ t) in
     (leb-true low x p.0, leb-true x high p.1)
-
-pub value_digit : (x : ℕ) (b : Bool) → b ≡ (leb 48 x && leb x 57) → b ≡ true → (x - 48 ≡ hex_value x) × (x - 48 < 16)
-unfolding hex_value is_digit
-value_digit x b e t = (rw (← e, t), omega (arith, bounds 48 57 x b e t))
-
-pub value_lower : (x : ℕ) (b c : Bool) → b ≡ (leb 48 x && leb x 57) → b ≡ false → c ≡ (leb 97 x && leb x 102) → c ≡ true
-    → (x - 87 ≡ hex_value x) × (x - 87 < 16)
-unfolding hex_value is_digit is_lower
-value_lower x b c e t f u = (rw (← e, ← f, t, u), omega (arith, bounds 97 102 x c f u))
-
-pub value_upper : (x : ℕ) (b c d : Bool) → b ≡ (leb 48 x && leb x 57) → b ≡ false → c ≡ (leb 97 x && leb x 102) → c ≡ false
-    → d ≡ (leb 65 x && leb x 70) → d ≡ true → (x - 55 ≡ hex_value x) × (x - 55 < 16)
-unfolding hex_value is_digit is_lower is_upper
-value_upper x b c d e t f u g v = (rw (← e, ← f, ← g, t, u, v), omega (arith, bounds 65 70 x d g v))
-
-pub value_none : (x : ℕ) (b c d : Bool) → b ≡ (leb 48 x && leb x 57) → b ≡ false → c ≡ (leb 97 x && leb x 102) → c ≡ false
-    → d ≡ (leb 65 x && leb x 70) → d ≡ false → 0 ≡ hex_value x
-unfolding hex_value is_digit is_lower is_upper
-value_none x b c d e t f u g v = rw (← e, ← f, ← g, t, u, v)
 
 pub hex_small : (x : ℕ) → hex_value x < 16
 unfolding hex_value is_digit is_lower is_upper
@@ -121,41 +88,31 @@ hexes_none l at h =
     go true e = e
     go false e = refl
 
-pub record HexSo (l : List ℕ) (at i : ℕ) : Type 0 where
-  pub some : at < length l
-  pub low : i ≤ length l
-  pub so_far : every is_hex (drop i l) ≡ every is_hex (drop at l)
+every_all : (t : List ℕ) → list_all is_hex t ≡ every is_hex t
+unfolding every
+every_all [] = refl
+every_all (x ∷ t) = ap (λ (b : Bool). is_hex x && b) (every_all t)
 
-pub hexes_start : (l : List ℕ) (at : ℕ) → at < length l → HexSo l at at
-hexes_start l at h = record { some = h; low = omega arith; so_far = refl }
+word_is : (l : List ℕ) (at : ℕ) → at < length l → hex_alone (words_from l at) ≡ every is_hex (drop at l)
+unfolding hex_word
+word_is l at h =
+    let n : 1 ≤ length (drop at l) = omega (arith, length-drop at l) in
+    ap hex_alone (from_here l at (omega arith)) ∙ alone_words (drop at l) ∙ rw (le-leb 1 (length (drop at l)) n)
 
-module _ (l : List ℕ) (at i : ℕ) (s : HexSo l at i) where
-  word_is : hex_alone (words_from l at) ≡ every is_hex (drop at l)
-  unfolding hex_word
-  word_is =
-      let n : 1 ≤ length (drop at l) = omega (arith, s.some, length-drop at l) in
-      ap hex_alone (from_here l at (omega (arith, s.some))) ∙ alone_words (drop at l) ∙ rw (le-leb 1 (length (drop at l)) n)
-
-  pub hexes_not : (b : Bool) → i < length l → b ≡ is_hex (get_or l i 0) → b ≡ false → HexesFrom l at false
-  unfolding every
-  hexes_not b h e t = no_hex l at (word_is ∙ sym s.so_far ∙ rw (drop-cons l i 0 h, ← e, t))
-
-  pub hexes_more : (b : Bool) → i < length l → b ≡ is_hex (get_or l i 0) → b ≡ true → HexSo l at (i + 1)
-  unfolding every
-  hexes_more b h e t =
-      record { some = s.some; low = omega arith; so_far = sym (rw (drop-cons l i 0 h, ← e, t, add-one i)) ∙ s.so_far }
-
-  pub hexes_stop : length l ≤ i → HexesFrom l at true
-  unfolding every
-  hexes_stop h =
-      let all : every is_hex (drop at l) ≡ true = sym s.so_far ∙ ap (every is_hex) (drop_of_length-le l h) in
-      let u : at ≤ length l = omega (arith, s.some) in
-      record {
-        tests = sym (word_is ∙ all);
-        within = λ z. u;
-        digits = λ z. sym (ap hex_alone (from_here l at u) ∙ alone_words (drop at l)) ∙ word_is ∙ all;
-        only = λ z. from_here l at u ∙ words_hex (drop at l) all;
-      }
+pub hexes_are : (l : List ℕ) (at : ℕ) (r : Bool) → at < length l → r ≡ list_all is_hex (drop at l) → HexesFrom l at r
+unfolding every
+hexes_are l at r h e = go r (e ∙ every_all (drop at l))
+  where
+    go : (b : Bool) → b ≡ every is_hex (drop at l) → HexesFrom l at b
+    go false e = no_hex l at (word_is l at h ∙ sym e)
+    go true e =
+        let u : at ≤ length l = omega arith in
+        record {
+          tests = e ∙ sym (word_is l at h);
+          within = λ z. u;
+          digits = λ z. sym (ap hex_alone (from_here l at u) ∙ alone_words (drop at l)) ∙ word_is l at h ∙ sym e;
+          only = λ z. from_here l at u ∙ words_hex (drop at l) (sym e);
+        }
 
 -- The bytes of a hex word.
 pub bytes_at : (w : List ℕ) (j : ℕ) → 2 * j + 1 < length w → get_or (bytes_of w) j 0 ≡ hex_value (get_or w (2 * j) 0) * 16 + hex_value (get_or w (2 * j + 1) 0)
@@ -185,38 +142,34 @@ bytes_are [] = tt
 bytes_are (a ∷ []) = tt
 bytes_are (a ∷ b ∷ w) = let x = hex_small a in let y = hex_small b in (omega arith, bytes_are w)
 
--- A buffer filled with them from the front: i bytes, and the next digit is at place k.
-pub record HexDone (l : List ℕ) (at : ℕ) (old out : List ℕ) (i k : ℕ) : Type 0 where
+-- A buffer filled with them from the front: i bytes.
+pub record HexDone (l : List ℕ) (at : ℕ) (old out : List ℕ) (i : ℕ) : Type 0 where
   pub long : at + 2 * length old ≡ length l
   pub size : length out ≡ length old
   pub low : i ≤ length old
-  pub place : k ≡ at + 2 * i
   pub done : (j : ℕ) → j < i → get_or out j 0 ≡ get_or (bytes_of (drop at l)) j 0
 
-pub hex_none : (l : List ℕ) (at : ℕ) (old : List ℕ) → at + 2 * length old ≡ length l → HexDone l at old old 0 at
-hex_none l at old e =
-    record { long = e; size = refl; low = omega arith; place = omega arith; done = λ j h. absurd (not-suc-le-zero h) }
+pub hex_none : (l : List ℕ) (at : ℕ) (old : List ℕ) → at + 2 * length old ≡ length l → HexDone l at old old 0
+hex_none l at old e = record { long = e; size = refl; low = omega arith; done = λ j h. absurd (not-suc-le-zero h) }
 
-module _ (l : List ℕ) (at : ℕ) (old out : List ℕ) (i k : ℕ) (d : HexDone l at old out i k) where
-  digits_at : i < length old → hex_value (get_or l k 0) * 16 + hex_value (get_or l (k + 1) 0) ≡ get_or (bytes_of (drop at l)) i 0
+module _ (l : List ℕ) (at : ℕ) (old out : List ℕ) (i : ℕ) (d : HexDone l at old out i) where
+  digits_at : i < length old → hex_value (get_or l (at + 2 * i) 0) * 16 + hex_value (get_or l (at + 2 * i + 1) 0) ≡ get_or (bytes_of (drop at l)) i 0
   digits_at h =
-      let f = d.place in
-      let g : at + (2 * i + 1) ≡ k + 1 = omega arith in
+      let g : at + (2 * i + 1) ≡ at + 2 * i + 1 = omega arith in
       sym
       (bytes_at (drop at l) i (omega (arith, d.long, length-drop at l))
       ∙ ap₂ (λ (x y : ℕ). hex_value x * 16 + hex_value y)
-      (get_or-drop at l (2 * i) 0 ∙ ap (λ (j : ℕ). get_or l j 0) (sym f))
+      (get_or-drop at l (2 * i) 0)
       (get_or-drop at l (2 * i + 1) 0 ∙ ap (λ (j : ℕ). get_or l j 0) g))
 
-  pub hex_more : (x y : ℕ) → i < length out → x ≡ hex_value (get_or l k 0) → y ≡ hex_value (get_or l (k + 1) 0)
-      → HexDone l at old (set out i (x * 16 + y)) (i + 1) (k + 2)
+  pub hex_more : (x y : ℕ) → i < length out → x ≡ hex_value (get_or l (at + 2 * i) 0) → y ≡ hex_value (get_or l (at + 2 * i + 1) 0)
+      → HexDone l at old (set out i (x * 16 + y)) (i + 1)
   hex_more x y h ex ey =
       let z = d.size in
       record {
         long = d.long;
         size = length-set out i (x * 16 + y) ∙ d.size;
         low = omega arith;
-        place = let f = d.place in omega arith;
         done = λ j u. byte j (ℕ_discrete j i) u;
       }
     where
@@ -233,3 +186,6 @@ module _ (l : List ℕ) (at : ℕ) (old out : List ℕ) (i k : ℕ) (d : HexDone
       let z = d.size in
       let n : length (drop at l) ≡ 2 * length out = omega (arith, d.long, length-drop at l) in
       ext_get_or 0 out (bytes_of (drop at l)) (sym (bytes_half (drop at l) (length out) n)) (λ j u. d.done j (omega arith))
+
+-- what the check of `hex_bytes` applies
+pub ruleset hex_steps = (hex_none, hex_more)

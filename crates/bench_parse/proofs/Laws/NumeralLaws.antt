@@ -1,6 +1,6 @@
 -- A word as a number, a digit at a time; and the numbers of a line, one at a time.
 use mathlib.Core.Path.{◌≡◌, refl, sym, ap, ap₂, ◌∙◌}
-use mathlib.Core.Bool.{Bool, true, false, ◌&&◌, and-false}
+use mathlib.Core.Bool.{Bool, true, false, cond, ◌&&◌, and-false}
 use mathlib.Core.List.{List, [], ◌∷◌}
 use Prim.Native.Nat.{ℕ, suc, ◌+◌, ◌-◌, ◌*◌, ◌^◌, ◌≤◌, ◌<◌}
 use native.Mathlib.Nat.{not-suc-le-zero, pow-le-pow_right}
@@ -12,25 +12,30 @@ use lib.Seq.{drop-cons}
 use borrow.Author.Tests.{lt-leb, le-leb, leb-true}
 use Rattle.bench_parse.specs.Lines.{most_digits, every, is_digit, number_word, value_after, value_of, numbers_of, are_numbers, number_in}
 use Rattle.bench_parse.specs.Workers.{words_from, CarryFrom, NumberAt}
-use Rattle.bench_parse.specs.Workers.{word_length, starts_number, others, NumeralOf, NumberFrom, AloneOf}
+use Rattle.bench_parse.specs.Workers.{word_length, starts_number, others, number_read, NumberTaken, lone_number}
+use Rattle.std.proofs.Common.{Some, None}
 use Rattle.bench_parse.proofs.Laws.WordLaws.{from_here, from_none, words_split, end_within, split_at_end}
-use Rattle.bench_parse.specs.declared.Numeral.{Numeral}
-use Rattle.bench_parse.specs.declared.Piece.{Piece}
+use Rattle.bench_parse.specs.declared.Number.{Number}
 
 pub clash : false ≡ true → ⊥
 clash e = let z : ◌≡◌ {A = ℕ} 0 1 = cc in omega arith
 
--- a word that is no number, whatever value the answer has
-not_numeral : (w : List ℕ) (v : ℕ) → number_word w ≡ false → NumeralOf w (record { good = false; value = v })
-not_numeral w v e = record { tests = sym e; value-is = λ z. absurd (clash z) }
+pub and_true : (a b : Bool) → a && b ≡ true → (a ≡ true) × (b ≡ true)
+and_true true b e = (refl, e)
+and_true false b e = absurd (clash e)
 
-pub numeral_empty : (w : List ℕ) (v : ℕ) → length w < 1 → NumeralOf w (record { good = false; value = v })
-unfolding number_word
-numeral_empty w v h = not_numeral w v (rw (lt-leb 1 (length w) h))
+-- a word that is no number
+not_numeral : (w : List ℕ) → number_word w ≡ false → None ≡ number_read w
+unfolding number_read
+not_numeral w e = rw e
 
-pub numeral_long : (w : List ℕ) (v : ℕ) → most_digits < length w → NumeralOf w (record { good = false; value = v })
+pub numeral_empty : (w : List ℕ) → length w < 1 → None ≡ number_read w
 unfolding number_word
-numeral_long w v h = not_numeral w v (rw (le-leb 1 (length w) (omega arith), lt-leb (length w) most_digits h))
+numeral_empty w h = not_numeral w (rw (lt-leb 1 (length w) h))
+
+pub numeral_long : (w : List ℕ) → most_digits < length w → None ≡ number_read w
+unfolding number_word
+numeral_long w h = not_numeral w (rw (le-leb 1 (length w) (omega arith), lt-leb (length w) most_digits h))
 
 -- what holds before digit i is read
 pub record NumeralSo (w : List ℕ) (value i : ℕ) : Type 0 where
@@ -53,23 +58,18 @@ module _ (w : List ℕ) (value i : ℕ) (s : NumeralSo w value i) where
       let p : 10 ^ i ≤ 10 ^ 18 = pow-le-pow_right (omega arith) n in
       omega (arith, s.small)
 
-  numeral_not : (v : ℕ) → i < length w → is_digit (get_or w i 0) ≡ false → NumeralOf w (record { good = false; value = v })
+  pub numeral_not : i < length w → is_digit (get_or w i 0) ≡ false → None ≡ number_read w
   unfolding number_word every
-  numeral_not v h e =
+  numeral_not h e =
       let f : every is_digit w ≡ false = sym s.digits ∙ rw (drop-cons w i 0 h, e) in
-      not_numeral w v (rw (le-leb 1 (length w) s.some, le-leb (length w) most_digits s.few) f)
+      not_numeral w (rw (le-leb 1 (length w) s.some, le-leb (length w) most_digits s.few) f)
 
-  pub numeral_below : (v : ℕ) → i < length w → get_or w i 0 < 48 → NumeralOf w (record { good = false; value = v })
-  unfolding is_digit
-  numeral_below v h x = numeral_not v h (rw (lt-leb 48 (get_or w i 0) x))
-
-  pub numeral_above : (v : ℕ) → i < length w → 48 ≤ get_or w i 0 → 57 < get_or w i 0 → NumeralOf w (record { good = false; value = v })
-  unfolding is_digit
-  numeral_above v h x y = numeral_not v h (rw (le-leb 48 (get_or w i 0) x, lt-leb (get_or w i 0) 57 y))
-
-  pub numeral_more : i < length w → 48 ≤ get_or w i 0 → get_or w i 0 ≤ 57 → NumeralSo w (value * 10 + (get_or w i 0 - 48)) (i + 1)
+  pub numeral_more : i < length w → is_digit (get_or w i 0) ≡ true → NumeralSo w (value * 10 + (get_or w i 0 - 48)) (i + 1)
   unfolding is_digit every value_after
-  numeral_more h x y =
+  numeral_more h e =
+      let p = and_true (leb 48 (get_or w i 0)) (leb (get_or w i 0) 57) e in
+      let x : 48 ≤ get_or w i 0 = leb-true 48 (get_or w i 0) p.0 in
+      let y : get_or w i 0 ≤ 57 = leb-true (get_or w i 0) 57 p.1 in
       record {
         some = s.some;
         few = s.few;
@@ -79,58 +79,62 @@ module _ (w : List ℕ) (value i : ℕ) (s : NumeralSo w value i) where
         small = rw (add-one i) (omega (arith, s.small));
       }
 
-  pub numeral_stop : length w ≤ i → NumeralOf w (record { good = true; value = value })
-  unfolding number_word every value_after
+  pub numeral_stop : length w ≤ i → Some value ≡ number_read w
+  unfolding number_read number_word every value_after
   numeral_stop h =
       let n = drop_of_length-le w h in
       let f : every is_digit w ≡ true = sym s.digits ∙ ap (every is_digit) n in
-      record {
-        tests = sym (rw (le-leb 1 (length w) s.some, le-leb (length w) most_digits s.few) f);
-        value-is = λ z. sym (ap (value_after value) n) ∙ s.sum;
-      }
-
-pub and_true : (a b : Bool) → a && b ≡ true → (a ≡ true) × (b ≡ true)
-and_true true b e = (refl, e)
-and_true false b e = absurd (clash e)
+      let v : value ≡ value_of w = sym (ap (value_after value) n) ∙ s.sum in
+      rw (le-leb 1 (length w) s.some, le-leb (length w) most_digits s.few, f) (ap Some v)
 
 number_some : (w : List ℕ) → number_word w ≡ true → 1 ≤ length w
 unfolding number_word
 number_some w e =
     leb-true 1 (length w) (and_true (leb 1 (length w)) (leb (length w) most_digits) (and_true (leb 1 (length w) && leb (length w) most_digits) (every is_digit w) e).0).0
 
--- A number looked for at a place: there is no word left, or there is one.
-pub piece_none : (l : List ℕ) (at v : ℕ) → at ≤ length l + 1 → length l < at → NumberFrom l at (record { good = false; value = v; next = at })
-unfolding starts_number
-piece_none l at v h n =
-    record {
-      taken =
-          record {
-            tests = sym (ap starts_number (from_none l at n));
-            rest-is = λ z. absurd (clash z);
-            value-is = λ z. absurd (clash z);
-          };
-      low = λ z. absurd (clash z);
-      high = h;
-    }
+read_none : (w : List ℕ) → number_read w ≡ None → number_word w ≡ false
+unfolding number_read
+read_none w = go (number_word w)
+  where
+    go : (b : Bool) → cond b (Some (value_of w)) None ≡ None → b ≡ false
+    go true e = cc
+    go false e = refl
 
-pub piece_read : (l : List ℕ) (at e : ℕ) (k : Numeral) → at ≤ length l → e ≡ at + word_length (drop at l)
-    → NumeralOf (take (e - at) (drop at l)) k → NumberFrom l at (record { good = k.good; value = k.value; next = e + 1 })
-unfolding starts_number others number_in
-piece_read l at e k h f m =
-    let s : words_from l at ≡ take (e - at) (drop at l) ∷ words_from l (e + 1) = from_here l at h ∙ split_at_end l at e h f in
-    record {
-      taken =
-          record {
-            tests = m.tests ∙ sym (ap starts_number s);
-            rest-is = λ z. sym (ap others s);
-            value-is = λ z. m.value-is z ∙ sym (ap (λ (ws : List (List ℕ)). number_in ws 0) s);
-          };
-      low = λ z.
-          let n = number_some (take (e - at) (drop at l)) (sym m.tests ∙ z) in
-          let t = length-take (e - at) (drop at l) in
-          omega arith;
-      high = let b = end_within l at e h f in omega arith;
-    }
+read_some : (w : List ℕ) (v : ℕ) → number_read w ≡ Some v → (number_word w ≡ true) × (v ≡ value_of w)
+unfolding number_read
+read_some w v = go (number_word w)
+  where
+    go : (b : Bool) → cond b (Some (value_of w)) None ≡ Some v → (b ≡ true) × (v ≡ value_of w)
+    go true e = (refl, cc)
+    go false e = cc
+
+-- A number looked for at a place: there is no word left, or there is one.
+pub none_left : (l : List ℕ) (at : ℕ) → length l < at → starts_number (words_from l at) ≡ false
+unfolding starts_number
+none_left l at n = ap starts_number (from_none l at n)
+
+module _ (l : List ℕ) (at e : ℕ) (h : at ≤ length l) (f : e ≡ at + word_length (drop at l)) where
+  splits : words_from l at ≡ take (e - at) (drop at l) ∷ words_from l (e + 1)
+  splits = from_here l at h ∙ split_at_end l at e h f
+
+  pub none_read : number_read (take (e - at) (drop at l)) ≡ None → starts_number (words_from l at) ≡ false
+  unfolding starts_number
+  none_read n = ap starts_number splits ∙ read_none (take (e - at) (drop at l)) n
+
+  pub number_taken : (v : ℕ) → number_read (take (e - at) (drop at l)) ≡ Some v → NumberTaken l at (record { value = v; end = e })
+  unfolding starts_number others number_in
+  number_taken v n =
+      let r = read_some (take (e - at) (drop at l)) v n in
+      record {
+        starts = ap starts_number splits ∙ r.0;
+        rest-is = sym (ap others splits);
+        value-is = r.1 ∙ sym (ap (λ (ws : List (List ℕ)). number_in ws 0) splits);
+        low =
+            let n = number_some (take (e - at) (drop at l)) r.0 in
+            let t = length-take (e - at) (drop at l) in
+            omega arith;
+        high = end_within l at e h f;
+      }
 
 -- Words taken off the front, one number at a time.
 are_more : (k : ℕ) (ws : List (List ℕ)) → starts_number ws ≡ true → are_numbers (suc k) ws ≡ are_numbers k (others ws)
@@ -148,15 +152,14 @@ unfolding number_in others
 number_later [] i = refl
 number_later (w ∷ ws) i = refl
 
-module _ (l : List ℕ) (at : ℕ) (p : Piece) (r : NumberFrom l at p) where
-  pub fails : (k : ℕ) → p.good ≡ false → are_numbers (suc k) (words_from l at) ≡ false
-  fails k g = are_not k (words_from l at) (sym r.taken.tests ∙ g)
+pub passes : (l : List ℕ) (at : ℕ) (p : Number) → NumberTaken l at p → (k : ℕ) → are_numbers (suc k) (words_from l at) ≡ are_numbers k (words_from l (p.end + 1))
+passes l at p r k = are_more k (words_from l at) r.starts ∙ ap (are_numbers k) (sym r.rest-is)
 
-  pub passes : (k : ℕ) → p.good ≡ true → are_numbers (suc k) (words_from l at) ≡ are_numbers k (words_from l p.next)
-  passes k g = are_more k (words_from l at) (sym r.taken.tests ∙ g) ∙ ap (are_numbers k) (sym (r.taken.rest-is g))
+pub fails : (l : List ℕ) (at : ℕ) → starts_number (words_from l at) ≡ false → (k : ℕ) → are_numbers (suc k) (words_from l at) ≡ false
+fails l at r k = are_not k (words_from l at) r
 
-  pub shifted : (i : ℕ) → p.good ≡ true → number_in (words_from l p.next) i ≡ number_in (words_from l at) (suc i)
-  shifted i g = ap (λ (ws : List (List ℕ)). number_in ws i) (r.taken.rest-is g) ∙ number_later (words_from l at) i
+pub shifted : (l : List ℕ) (at : ℕ) (p : Number) → NumberTaken l at p → (i : ℕ) → number_in (words_from l (p.end + 1)) i ≡ number_in (words_from l at) (suc i)
+shifted l at p r i = ap (λ (ws : List (List ℕ)). number_in ws i) r.rest-is ∙ number_later (words_from l at) i
 
 -- The last number of a line.
 are_none : (l : List ℕ) (at : ℕ) → length l < at → are_numbers 0 (words_from l at) ≡ true
@@ -169,18 +172,19 @@ are_some l at h =
     ap (are_numbers 0) (from_here l at h ∙ words_split (drop at l))
     ∙ rw (eqb-suc-zero (length (words_from (drop at l) (word_length (drop at l) + 1))))
 
-pub alone_not : (l : List ℕ) (at v : ℕ) (p : Piece) → NumberFrom l at p → p.good ≡ false → AloneOf (words_from l at) (record { good = false; value = v })
-alone_not l at v p r g = record { tests = sym (fails l at p r 0 g); value-is = λ z. absurd (clash z) }
+lone_none : (ws : List (List ℕ)) → are_numbers 1 ws ≡ false → None ≡ lone_number ws
+unfolding lone_number
+lone_none ws e = rw e
 
-pub alone_more : (l : List ℕ) (at v : ℕ) (p : Piece) → NumberFrom l at p → p.good ≡ true → p.next ≤ length l
-    → AloneOf (words_from l at) (record { good = false; value = v })
-alone_more l at v p r g h =
-    record { tests = sym (passes l at p r 0 g ∙ are_some l p.next h); value-is = λ z. absurd (clash z) }
+pub alone_not : (l : List ℕ) (at : ℕ) → starts_number (words_from l at) ≡ false → None ≡ lone_number (words_from l at)
+alone_not l at r = lone_none (words_from l at) (fails l at r 0)
 
-pub alone_is : (l : List ℕ) (at : ℕ) (p : Piece) → NumberFrom l at p → p.good ≡ true → length l < p.next
-    → AloneOf (words_from l at) (record { good = true; value = p.value })
-alone_is l at p r g h =
-    record { tests = sym (passes l at p r 0 g ∙ are_none l p.next h); value-is = λ z. r.taken.value-is g }
+pub alone_more : (l : List ℕ) (at : ℕ) (p : Number) → NumberTaken l at p → p.end < length l → None ≡ lone_number (words_from l at)
+alone_more l at p r h = lone_none (words_from l at) (passes l at p r 0 ∙ are_some l (p.end + 1) (omega arith))
+
+pub alone_is : (l : List ℕ) (at : ℕ) (p : Number) → NumberTaken l at p → length l ≤ p.end → Some p.value ≡ lone_number (words_from l at)
+unfolding lone_number
+alone_is l at p r h = rw (passes l at p r 0 ∙ are_none l (p.end + 1) (omega arith)) (ap Some r.value-is)
 
 -- Numbers to the end of a line.
 pub record NumbersSo (l : List ℕ) (at k : ℕ) : Type 0 where
@@ -204,14 +208,14 @@ pub numbers_start : (l : List ℕ) (at : ℕ) → at ≤ length l + 1 → Number
 numbers_start l at h = record { high = h; so_far = refl }
 
 module _ (l : List ℕ) (at k : ℕ) (s : NumbersSo l at k) where
-  pub numbers_not : (p : Piece) → NumberFrom l k p → k ≤ length l → p.good ≡ false → false ≡ every number_word (words_from l at)
-  numbers_not p r h g = sym (every_not (words_from l k) (from_some l k h) (sym r.taken.tests ∙ g)) ∙ s.so_far
+  pub numbers_not : starts_number (words_from l k) ≡ false → k ≤ length l → false ≡ every number_word (words_from l at)
+  numbers_not r h = sym (every_not (words_from l k) (from_some l k h) r) ∙ s.so_far
 
-  pub numbers_more : (p : Piece) → NumberFrom l k p → p.good ≡ true → NumbersSo l at p.next
-  numbers_more p r g =
+  pub numbers_more : (p : Number) → NumberTaken l k p → NumbersSo l at (p.end + 1)
+  numbers_more p r =
       record {
-        high = r.high;
-        so_far = sym (every_more (words_from l k) (sym r.taken.tests ∙ g) ∙ ap (every number_word) (sym (r.taken.rest-is g))) ∙ s.so_far;
+        high = omega (arith, r.high);
+        so_far = sym (every_more (words_from l k) r.starts ∙ ap (every number_word) (sym r.rest-is)) ∙ s.so_far;
       }
 
   pub numbers_stop : length l < k → true ≡ every number_word (words_from l at)
@@ -229,35 +233,35 @@ unfolding numbers_of number_in others starts_number
 numbers_cons [] e = absurd (clash e)
 numbers_cons (w ∷ ws) e = refl
 
-module _ (l : List ℕ) (at : ℕ) (p : Piece) (c : CarryFrom l at) (r : NumberFrom l at p) where
+module _ (l : List ℕ) (at : ℕ) (c : CarryFrom l at) where
   all_numbers : every number_word (words_from l at) ≡ true
   all_numbers = ap (every number_word) (from_here l at c.within) ∙ c.numbers
 
-  pub carry_good : p.good ≡ true
-  carry_good = r.taken.tests ∙ starts_every (words_from l at) (from_some l at c.within) all_numbers
+  pub carry_some : starts_number (words_from l at) ≡ false → ⊥
+  carry_some r = clash (sym r ∙ starts_every (words_from l at) (from_some l at c.within) all_numbers)
 
-  pub carry_low : at + 1 < p.next
-  carry_low = r.low carry_good
-
-  pub carry_number : NumberAt l at (record { value = p.value; end = p.next - 1 })
-  carry_number =
-      let low = carry_low in
-      let high = r.high in
-      let e : p.next ≡ p.next - 1 + 1 = omega arith in
-      let starts = sym r.taken.tests ∙ carry_good in
+  pub carry_number : (p : Number) → NumberTaken l at p → NumberAt l at p
+  carry_number p r =
       record {
-        starts = omega arith;
-        ends = omega arith;
-        splits = sym (ap numbers_of (from_here l at c.within)) ∙ numbers_cons (words_from l at) starts
-            ∙ ap₂ (λ (v : ℕ) (ws : List (List ℕ)). v ∷ numbers_of ws) (sym (r.taken.value-is carry_good))
-            (sym (r.taken.rest-is carry_good) ∙ ap (words_from l) e);
+        starts = r.low;
+        ends = r.high;
+        splits = sym (ap numbers_of (from_here l at c.within)) ∙ numbers_cons (words_from l at) r.starts
+            ∙ ap₂ (λ (v : ℕ) (ws : List (List ℕ)). v ∷ numbers_of ws) (sym r.value-is) (sym r.rest-is);
         later = λ h.
-            let n : p.next - 1 + 1 ≤ length l = omega arith in
+            let n : p.end + 1 ≤ length l = omega arith in
             record {
               within = n;
-              after = omega (arith, c.after);
+              after = omega (arith, c.after, r.low);
               short = c.short;
-              numbers = ap (every number_word) (sym (from_here l (p.next - 1 + 1) n) ∙ ap (words_from l) (sym e) ∙ r.taken.rest-is carry_good)
-                  ∙ sym (every_more (words_from l at) starts) ∙ all_numbers;
+              numbers = ap (every number_word) (sym (from_here l (p.end + 1) n) ∙ r.rest-is) ∙ sym (every_more (words_from l at) r.starts) ∙ all_numbers;
             };
       }
+
+-- what the checks of `word_number`, `number_from`, `alone` and `all_numbers` apply
+pub ruleset word_steps = (numeral_empty, numeral_long, numeral_start, numeral_fits, numeral_not, numeral_stop)
+
+pub ruleset number_steps = (none_left, none_read, number_taken)
+
+pub ruleset alone_steps = (alone_not, alone_more, alone_is)
+
+pub ruleset numbers_steps = (numbers_start, numbers_not, numbers_more, numbers_stop)

@@ -1,15 +1,16 @@
 -- A line's words, one at a time.
 use mathlib.Core.Path.{◌≡◌, refl, sym, ap, ap₂, ◌∙◌}
-use mathlib.Core.Bool.{Bool, true, false, cond, ◌&&◌, and-false}
+use mathlib.Core.Bool.{Bool, true, false, cond, not, ◌&&◌}
 use mathlib.Core.List.{List, [], ◌∷◌}
 use Prim.Native.Nat.{ℕ, zero, suc, ◌+◌, ◌-◌, ◌≤◌, ◌<◌}
 use native.Mathlib.Nat.{not-suc-le-zero}
-use native.Mathlib.Numerals.{add-one}
 use native.Mathlib.Omega.{arith}
-use lib.Dec.{eqb, leb-suc-suc}
-use lib.ListN.{length, get_or, take, drop, length-drop, drop_of_length-le}
-use lib.Seq.{drop-cons}
-use borrow.Author.Tests.{eq-eqb, ne_eqb, lt-leb, le-leb}
+use lib.Dec.{eqb, ltb, leb-suc-suc}
+use lib.ListN.{length, take, drop, length-drop}
+use borrow.Author.Tests.{lt-leb, le-leb, ltb-false}
+use Rattle.std.proofs.Common.{Option, Some, None}
+use Rattle.std.specs.List.{position_or_len}
+use Rattle.std.specs.Cmp.Lexicographic.{pointwise}
 use Rattle.bench_parse.specs.Lines.{space, longer, words}
 use Rattle.byte_lists.specs.Lists.{same}
 use Rattle.bench_parse.specs.Workers.{words_from}
@@ -23,18 +24,16 @@ pub from_none : (l : List ℕ) (at : ℕ) → length l < at → words_from l at 
 unfolding words_from
 from_none l at h = rw (lt-leb at (length l) h)
 
--- the length of a word, one byte at a time
-pub length_space : (l : List ℕ) (e : ℕ) → e < length l → get_or l e 0 ≡ space → word_length (drop e l) ≡ 0
+-- a word's length is the place of the first space, or of the end
+word_position : (t : List ℕ) → word_length t ≡ position_or_len (λ x. eqb x space) t
 unfolding word_length
-length_space l e h x = rw (drop-cons l e 0 h, eq-eqb (get_or l e 0) space x)
-
-pub length_more : (l : List ℕ) (e : ℕ) → e < length l → (get_or l e 0 ≡ space → ⊥) → word_length (drop e l) ≡ 1 + word_length (drop (e + 1) l)
-unfolding word_length
-length_more l e h x = rw (drop-cons l e 0 h, ne_eqb (get_or l e 0) space x, add-one e) (omega arith)
-
-pub length_end : (l : List ℕ) (e : ℕ) → length l ≤ e → word_length (drop e l) ≡ 0
-unfolding word_length
-length_end l e h = ap word_length (drop_of_length-le l h)
+word_position [] = refl
+word_position (x ∷ t) = go (eqb x space) (word_position t)
+  where
+    go : (b : Bool) → word_length t ≡ position_or_len (λ x. eqb x space) t
+        → cond b 0 (suc (word_length t)) ≡ cond (not b) (1 + position_or_len (λ x. eqb x space) t) 0
+    go true e = refl
+    go false e = omega arith
 
 pub length_within : (t : List ℕ) → word_length t ≤ length t
 unfolding word_length
@@ -84,61 +83,30 @@ module _ (l : List ℕ) (at e : ℕ) (h : at ≤ length l) (f : e ≡ at + word_
       ∙ ap₂ (λ (k : ℕ) (ws : List (List ℕ)). take k (drop at l) ∷ ws) n
       (from_drop l at (word_length (drop at l) + 1) h ∙ ap (words_from l) m)
 
--- The search for a word's end.
-pub record WordSo (l : List ℕ) (at e : ℕ) : Type 0 where
-  pub low : at ≤ e
-  pub high : e ≤ length l
-  pub so_far : at + word_length (drop at l) ≡ e + word_length (drop e l)
+-- What the search for a space gives.
+pub space_found : (t : List ℕ) (k : ℕ)
+    → Some k ≡ cond (ltb (position_or_len (λ x. eqb x space) t) (length t)) (Some (position_or_len (λ x. eqb x space) t)) None
+    → k ≡ word_length t
+space_found t k = go (ltb (position_or_len (λ x. eqb x space) t) (length t))
+  where
+    go : (b : Bool) → Some k ≡ cond b (Some (position_or_len (λ x. eqb x space) t)) None → k ≡ word_length t
+    go true e = let f : k ≡ position_or_len (λ x. eqb x space) t = cc in f ∙ sym (word_position t)
+    go false e = cc
 
-pub word_start : (l : List ℕ) (at : ℕ) → at ≤ length l → WordSo l at at
-word_start l at h = record { low = omega arith; high = h; so_far = refl }
+pub no_space_found : (t : List ℕ)
+    → None ≡ cond (ltb (position_or_len (λ x. eqb x space) t) (length t)) (Some (position_or_len (λ x. eqb x space) t)) None
+    → length t ≡ word_length t
+no_space_found t = go (ltb (position_or_len (λ x. eqb x space) t) (length t)) refl
+  where
+    go : (b : Bool) → ltb (position_or_len (λ x. eqb x space) t) (length t) ≡ b
+        → ◌≡◌ {A = Option ℕ} None (cond b (Some (position_or_len (λ x. eqb x space) t)) None) → length t ≡ word_length t
+    go true f e = cc
+    go false f e = let w = length_within t in let g = word_position t in let h = ltb-false (position_or_len (λ x. eqb x space) t) (length t) f in omega arith
 
-pub word_space : (l : List ℕ) (at e : ℕ) → WordSo l at e → e < length l → get_or l e 0 ≡ space → e ≡ at + word_length (drop at l)
-word_space l at e s h x = let z = length_space l e h x in let f = s.so_far in omega arith
-
-pub word_more : (l : List ℕ) (at e : ℕ) → WordSo l at e → e < length l → (get_or l e 0 ≡ space → ⊥) → WordSo l at (e + 1)
-word_more l at e s h x =
-    record { low = omega (arith, s.low); high = omega arith; so_far = let z = length_more l e h x in let f = s.so_far in omega arith }
-
-pub word_stop : (l : List ℕ) (at e : ℕ) → WordSo l at e → length l ≤ e → e ≡ at + word_length (drop at l)
-word_stop l at e s h = let z = length_end l e h in let f = s.so_far in omega arith
-
--- Two words, a byte at a time.
-pub record SameSo (a b : List ℕ) (i : ℕ) : Type 0 where
-  pub size : length a ≡ length b
-  pub low : i ≤ length a
-  pub so_far : same (drop i a) (drop i b) ≡ same a b
-
-pub same_lengths : (a b : List ℕ) → (length a ≡ length b → ⊥) → false ≡ same a b
+-- Two words, compared.
+pub same_lem : (a b : List ℕ) → pointwise eqb a b ≡ same a b
 unfolding same
-same_lengths [] [] h = absurd (h refl)
-same_lengths [] (y ∷ b) h = refl
-same_lengths (x ∷ a) [] h = refl
-same_lengths (x ∷ a) (y ∷ b) h = sym (ap (λ (t : Bool). eqb x y && t) (sym (same_lengths a b (λ e. h (ap suc e)))) ∙ and-false (eqb x y))
-
-pub same_start : (a b : List ℕ) → length a ≡ length b → SameSo a b 0
-same_start a b e = record { size = e; low = omega arith; so_far = refl }
-
-same_step : (a b : List ℕ) (i : ℕ) → SameSo a b i → i < length a → same a b ≡ eqb (get_or a i 0) (get_or b i 0) && same (drop (i + 1) a) (drop (i + 1) b)
-unfolding same
-same_step a b i s h =
-    let k : i < length b = omega (arith, s.size) in
-    sym s.so_far ∙ rw (drop-cons a i 0 h, drop-cons b i 0 k, add-one i)
-
-pub same_differ : (a b : List ℕ) (i : ℕ) → SameSo a b i → i < length a → (get_or a i 0 ≡ get_or b i 0 → ⊥) → false ≡ same a b
-same_differ a b i s h n =
-    sym (same_step a b i s h ∙ ap (λ (t : Bool). t && same (drop (i + 1) a) (drop (i + 1) b)) (ne_eqb (get_or a i 0) (get_or b i 0) n))
-
-pub same_more : (a b : List ℕ) (i : ℕ) → SameSo a b i → i < length a → get_or a i 0 ≡ get_or b i 0 → SameSo a b (i + 1)
-same_more a b i s h e =
-    record {
-      size = s.size;
-      low = omega arith;
-      so_far = sym (same_step a b i s h ∙ ap (λ (t : Bool). t && same (drop (i + 1) a) (drop (i + 1) b)) (eq-eqb (get_or a i 0) (get_or b i 0) e));
-    }
-
-pub same_stop : (a b : List ℕ) (i : ℕ) → SameSo a b i → length a ≤ i → true ≡ same a b
-unfolding same
-same_stop a b i s h =
-    let k : length b ≤ i = omega (arith, s.size) in
-    sym (ap₂ same (drop_of_length-le a h) (drop_of_length-le b k)) ∙ s.so_far
+same_lem [] [] = refl
+same_lem [] (y ∷ b) = refl
+same_lem (x ∷ a) [] = refl
+same_lem (x ∷ a) (y ∷ b) = ap (λ (t : Bool). eqb x y && t) (same_lem a b)

@@ -10,6 +10,11 @@ use borrow.Author.Tests.{eq-eqb, ne_eqb, le-leb, lt-leb, leb-true, eqb-true}
 use Rattle.byte_lists.proofs.Laws.BoolLaws.{and_left, and_right}
 use Rattle.settings.specs.Refusal.{refuse_unless, first_refusal, bad_length, bad_record, bad_setting}
 use Rattle.settings.specs.declared.Settings.{Settings}
+use Rattle.settings.specs.declared.Refusal.{Refusal}
+use Rattle.settings.specs.declared.Refusal.TheVariants.{BadSetting, BadLength, BadNumber, BadBrickSet, BadCheck, BadRecord, BadReading}
+use Rattle.settings.specs.declared.Refusal.TheVariants.{ClockSpent, Busy, BadMessage, StrayReply, BadLine, BadStripe, BadBlock, BlocksDisagree}
+use Rattle.settings.specs.Refusal.{number_of_refusal, refusal_in}
+use Rattle.std.specs.Prelude.{Result, Ok, Err, is_ok}
 use Rattle.bench_parse.specs.Lines.{reads}
 use Rattle.bench_rules.specs.Play.{Stage, waiting, playing, events_of, turn, plays}
 use Rattle.bench_rules.specs.Turning.{Lent, lent, world_in}
@@ -30,38 +35,40 @@ use Rattle.bench_limits.specs.Limits.{last_message, kept_length, images_length, 
 pub right_none : (s : Settings) → s.n ≡ 0 → true ≡ (eqb s.n 0 || bench_range s)
 right_none s e = rw (eq-eqb s.n 0 e) refl
 
-pub right_some : (s : Settings) (k : ℕ) → (s.n ≡ 0 → ⊥) → k ≡ bench_refusal s → eqb k 0 ≡ (eqb s.n 0 || bench_range s)
+pub has_number : (r : Refusal) → number_of_refusal r ≡ 0 → ⊥
+has_number BadSetting e = absurd (omega arith)
+has_number BadLength e = absurd (omega arith)
+has_number BadNumber e = absurd (omega arith)
+has_number BadBrickSet e = absurd (omega arith)
+has_number BadCheck e = absurd (omega arith)
+has_number BadRecord e = absurd (omega arith)
+has_number BadReading e = absurd (omega arith)
+has_number ClockSpent e = absurd (omega arith)
+has_number Busy e = absurd (omega arith)
+has_number BadMessage e = absurd (omega arith)
+has_number StrayReply e = absurd (omega arith)
+has_number BadLine e = absurd (omega arith)
+has_number BadStripe e = absurd (omega arith)
+has_number BadBlock e = absurd (omega arith)
+has_number BlocksDisagree e = absurd (omega arith)
+
+pub right_some : {A : Type 0} (s : Settings) (r : Result A Refusal) → (s.n ≡ 0 → ⊥) → refusal_in r ≡ bench_refusal s → is_ok r ≡ (eqb s.n 0 || bench_range s)
 unfolding bench_refusal
-right_some s k h e = rw (ne_eqb s.n 0 h, e) (go (bench_range s))
+right_some s (Ok a) h e = rw (ne_eqb s.n 0 h) (go (bench_range s) e)
   where
-    go : (x : Bool) → eqb (refuse_unless x bad_setting) 0 ≡ x
-    go true = refl
-    go false = refl
+    go : (x : Bool) → 0 ≡ refuse_unless x bad_setting → true ≡ x
+    go true q = refl
+    go false q = absurd (omega arith)
+right_some s (Err f) h e = rw (ne_eqb s.n 0 h) (go (bench_range s) e)
+  where
+    go : (x : Bool) → number_of_refusal f ≡ refuse_unless x bad_setting → false ≡ x
+    go true q = absurd (has_number f q)
+    go false q = refl
 
 module _ (images kept numbers bytes out : ℕ) where
   pub lengths_all : images ≡ images_length → kept ≡ kept_length → numbers ≡ numbers_length → bytes ≡ bytes_length → out ≡ text_length → true ≡ lent_lengths_right images kept numbers bytes out
   unfolding lent_lengths_right
   lengths_all a b c d e = rw (eq-eqb images images_length a, eq-eqb kept kept_length b, eq-eqb numbers numbers_length c, eq-eqb bytes bytes_length d, eq-eqb out text_length e) refl
-
-  pub lengths_images : (images ≡ images_length → ⊥) → false ≡ lent_lengths_right images kept numbers bytes out
-  unfolding lent_lengths_right
-  lengths_images h = rw (ne_eqb images images_length h) refl
-
-  pub lengths_kept : images ≡ images_length → (kept ≡ kept_length → ⊥) → false ≡ lent_lengths_right images kept numbers bytes out
-  unfolding lent_lengths_right
-  lengths_kept a h = rw (eq-eqb images images_length a, ne_eqb kept kept_length h) refl
-
-  pub lengths_numbers : images ≡ images_length → kept ≡ kept_length → (numbers ≡ numbers_length → ⊥) → false ≡ lent_lengths_right images kept numbers bytes out
-  unfolding lent_lengths_right
-  lengths_numbers a b h = rw (eq-eqb images images_length a, eq-eqb kept kept_length b, ne_eqb numbers numbers_length h) refl
-
-  pub lengths_bytes : images ≡ images_length → kept ≡ kept_length → numbers ≡ numbers_length → (bytes ≡ bytes_length → ⊥) → false ≡ lent_lengths_right images kept numbers bytes out
-  unfolding lent_lengths_right
-  lengths_bytes a b c h = rw (eq-eqb images images_length a, eq-eqb kept kept_length b, eq-eqb numbers numbers_length c, ne_eqb bytes bytes_length h) refl
-
-  pub lengths_out : images ≡ images_length → kept ≡ kept_length → numbers ≡ numbers_length → bytes ≡ bytes_length → (out ≡ text_length → ⊥) → false ≡ lent_lengths_right images kept numbers bytes out
-  unfolding lent_lengths_right
-  lengths_out a b c d h = rw (eq-eqb images images_length a, eq-eqb kept kept_length b, eq-eqb numbers numbers_length c, eq-eqb bytes bytes_length d, ne_eqb out text_length h) refl
 
   module _ (b : Bench) where
     pub refused_settings : (x : Bool) → x ≡ (eqb b.settings.n 0 || bench_range b.settings) → x ≡ false → bad_setting ≡ bench_refused b images kept numbers bytes out

@@ -8,7 +8,11 @@ use lib.ListN.{length, length-append}
 use borrow.Author.Tests.{eq-eqb, ne_eqb}
 use Rattle.settings.specs.Refusal.{refuse_unless, bad_line, bad_setting}
 use Rattle.settings.specs.declared.Settings.{Settings}
-use Rattle.bench_parse.specs.Lines.{Line, set_line, write_line, read_line, carry_line, crash_line, down_line, up_line, no_line}
+use Rattle.bench_parse.specs.declared.Line as code
+use Rattle.bench_parse.specs.declared.Line.TheVariants.{Set, Write, Read, Carry, Crash, Down, Up, Unread}
+use Rattle.bench_parse.specs.Workers.{line_of, LineSound}
+use Rattle.bench_parse.proofs.Laws.CallerLaws.{said_write, said_read, said_carry, said_crash, said_down, said_up, said_nothing}
+use Rattle.bench_parse.specs.Lines.{reads, Line, set_line, write_line, read_line, carry_line, crash_line, down_line, up_line, no_line}
 use Rattle.bench_rules.specs.Play.{Played, refuses, writes, starts, crashes_at, switches, carried_all, plays, waiting, playing, events_of, Turn, waits, begins, one_stripe, first, turn}
 use Rattle.bench_rules.specs.Turning.{Lent, lent, world_in}
 use Rattle.bench_rules.specs.Workers.{Turned, Lined}
@@ -116,14 +120,31 @@ module _ (b : Bench) (out out' : List ℕ) (r : After) (none : b.settings.n ≡ 
     unfolding first
     first_nothing e = waits_so bad_line said images kept (ap first e) t
 
+  -- what is no set, by its cases
+  pub first_other : (images kept : List ℕ) → ((l : Lent) → Turned b l 0 out (refuses (world_in b l) bad_line) r l out') → (read : code.Line) (line : List ℕ)
+      → line_of read line ≡ reads line → LineSound read line → ((n m size capacity : ℕ) → read ≡ Set n m size capacity → ⊥) → First b images kept (reads line) out r images kept out'
+  first_other images kept t (Set n m size capacity) line e s h = absurd (h n m size capacity refl)
+  first_other images kept t (Write c clock at) line e s h = first_write (reads line) images kept t _ _ _ (said_write (Write c clock at) line e c clock at refl)
+  first_other images kept t (Read c clock brick) line e s h = first_read (reads line) images kept t _ _ _ (said_read (Read c clock brick) line e c clock brick refl)
+  first_other images kept t (Carry at) line e s h = first_carry (reads line) images kept t _ (said_carry (Carry at) line e at refl s)
+  first_other images kept t (Crash c) line e s h = first_crash (reads line) images kept t _ (said_crash (Crash c) line e c refl)
+  first_other images kept t (Down brick) line e s h = first_down (reads line) images kept t _ (said_down (Down brick) line e brick refl)
+  first_other images kept t (Up brick) line e s h = first_up (reads line) images kept t _ (said_up (Up brick) line e brick refl)
+  first_other images kept t Unread line e s h = first_nothing (reads line) images kept t (said_nothing Unread line e refl)
+
   -- settings past the limits
   pub first_bad : (n m size capacity bad : ℕ) (said : Line) (images kept : List ℕ) → said ≡ set_line n m size capacity
       → bad ≡ bench_refusal (one_stripe n m size capacity) → (bad ≡ 0 → ⊥)
-      → ((l : Lent) → Turned b l 0 out (refuses (world_in b l) bad_setting) r l out') → First b images kept said out r images kept out'
+      → ((l : Lent) → Turned b l 0 out (refuses (world_in b l) bad) r l out') → First b images kept said out r images kept out'
   unfolding first begins bench_refusal
   first_bad n m size capacity bad said images kept e eb h t =
-      waits_so bad_setting said images kept (ap first e ∙ go (bench_range (one_stripe n m size capacity)) eb) t
+      waits_so bad_setting said images kept (ap first e ∙ go (bench_range (one_stripe n m size capacity)) eb)
+      (λ l. subst (λ (k : ℕ). Turned b l 0 out (refuses (world_in b l) k) r l out') (is_bad (bench_range (one_stripe n m size capacity)) eb) (t l))
     where
+      is_bad : (x : Bool) → bad ≡ refuse_unless x bad_setting → bad ≡ bad_setting
+      is_bad true q = absurd (h q)
+      is_bad false q = q
+
       go : (x : Bool) → bad ≡ refuse_unless x bad_setting
           → cond x (record { stage = playing (one_stripe n m size capacity) (fresh_set (one_stripe n m size capacity)) []; events = []; printed = [] }) (waits bad_setting)
           ≡ waits bad_setting

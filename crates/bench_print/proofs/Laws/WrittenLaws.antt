@@ -1,12 +1,14 @@
 -- A text written into a list: nothing, one after another, and its front.
-use mathlib.Core.Path.{◌≡◌, refl, sym, ap, ap₂, subst, ◌∙◌}
+use mathlib.Core.Path.{◌≡◌, refl, sym, ap, ap₂, ◌∙◌}
 use mathlib.Core.List.{List, [], ◌∷◌, ◌++◌, append_assoc}
-use Prim.Native.Nat.{ℕ, ◌+◌, ◌≤◌, ◌<◌}
+use Prim.Native.Nat.{ℕ, ◌+◌, ◌-◌, ◌≤◌, ◌<◌}
 use native.Mathlib.Omega.{arith}
 use native.Mathlib.Numerals.{add-one, unary_clauses}
-use lib.ListN.{length, take, drop, get_or, set, length-append, length-set, length-take, take-append-drop}
-use lib.Seq.{take_at, drop-append-add, drop-drop, set_split, take-suc, take_all}
+use lib.ListN.{length, take, drop, set, length-append, length-take, take-append-drop}
+use lib.Seq.{take_at, drop-append-add, drop-drop, set_split}
+use borrow.Rule.Slice.PartMut.{put_mid}
 use Rattle.byte_lists.specs.Lists.{put}
+use Rattle.byte_lists.proofs.Laws.PutLaws.{put_mid_lem}
 use Rattle.bench_print.specs.Printing.{printed_into}
 use Rattle.bench_print.specs.Workers.{PrintedAt}
 
@@ -57,40 +59,10 @@ placed_byte at b old h = record { next-is = refl; holds = written_byte at b old 
 pub placed_nothing : (at : ℕ) (old : List ℕ) → PrintedAt at [] old old at
 placed_nothing at old = record { next-is = omega arith; holds = sym (written_nothing at old) }
 
--- The first i bytes of a word were written.
-pub record Wording (at : ℕ) (word old : List ℕ) (i : ℕ) (out : List ℕ) : Type 0 where
-  pub within : at + length word ≤ length old
-  pub so_far : i ≤ length word
-  pub same-long : length out ≡ length old
-  pub placed : PrintedAt at (take i word) old out (at + i)
-
-pub wording_none : (at : ℕ) (word old : List ℕ) → at + length word ≤ length old → Wording at word old 0 old
-wording_none at word old h =
+-- as the code stores a word
+pub placed_word : (at : ℕ) (word old x : List ℕ) → x ≡ word → PrintedAt at word old (put_mid at (at + length word - at) old x) (at + length word)
+placed_word at word old x e =
     record {
-      within = h;
-      so_far = omega arith;
-      same-long = refl;
-      placed = record { next-is = refl; holds = sym (written_nothing at old) };
+      next-is = refl;
+      holds = ap (put_mid at (at + length word - at) old) e ∙ put_mid_lem at (at + length word) old word (omega arith) (omega arith);
     }
-
-pub wording_more : (at : ℕ) (word old : List ℕ) (i : ℕ) (out : List ℕ) → i < length word → Wording at word old i out
-    → Wording at word old (i + 1) (set out (at + i) (get_or word i 0))
-wording_more at word old i out h p =
-    let w = p.within in
-    let n = p.same-long in
-    let b = placed_byte (at + i) (get_or word i 0) out (omega arith) in
-    let e : take i word ++ get_or word i 0 ∷ [] ≡ take (i + 1) word = rw add-one (sym (take-suc word i 0 h)) in
-    let a : at + i + 1 ≡ at + (i + 1) = omega arith in
-    record {
-      within = w;
-      so_far = omega arith;
-      same-long = length-set out (at + i) (get_or word i 0) ∙ n;
-      placed =
-          subst (PrintedAt at (take (i + 1) word) old (set out (at + i) (get_or word i 0))) a
-          (placed_as at (take i word ++ get_or word i 0 ∷ []) (take (i + 1) word) old (set out (at + i) (get_or word i 0)) (at + i + 1) e
-          (placed_both at (take i word) (get_or word i 0 ∷ []) old out (set out (at + i) (get_or word i 0)) (at + i) (at + i + 1) (omega arith) p.placed b));
-    }
-
-pub wording_all : (at : ℕ) (word old : List ℕ) (i : ℕ) (out : List ℕ) → length word ≤ i → Wording at word old i out → PrintedAt at word old out (at + i)
-wording_all at word old i out h p =
-    placed_as at (take i word) word old out (at + i) (take_all i word h) p.placed

@@ -4,23 +4,14 @@ use mathlib.Core.List.{List, [], ◌∷◌}
 use Prim.Native.Nat.{ℕ, ◌+◌, ◌≤◌}
 use native.Mathlib.Omega.{arith}
 use lib.ListN.{length}
-use Rattle.bench_print.specs.Printing.{refused_text, printed_into}
 use Rattle.bench_print.proofs.Laws.WrittenLaws.{written_nothing}
 use Rattle.bench_state.specs.declared.Bench.{Bench}
 use Rattle.register.specs.Runs.{Event}
-use Rattle.bench_rules.specs.Play.{Played, refuses, passes}
+use Rattle.bench_rules.specs.Play.{Played, passes}
 use Rattle.bench_rules.specs.Turning.{Lent, world_in}
 use Rattle.bench_rules.specs.Workers.{Turned, Lined}
 use Rattle.bench_rules.specs.declared.After.{After}
-use Rattle.bench_limits.specs.Limits.{last_message, line_room}
-
--- one refusal
-pub turned_refused : (b : Bench) (l : Lent) (at number used : ℕ) (out out' : List ℕ) → b.sent ≤ last_message → used ≡ at + length (refused_text number)
-    → out' ≡ printed_into at (refused_text number) out → used ≤ at + line_room
-    → Turned b l at out (refuses (world_in b l) number) (record { bench = b; used = used }) l out'
-unfolding refuses
-turned_refused b l at number used out out' f e w h =
-    record { world_is = refl; settings-kept = refl; few = f; text-is = w; used-is = e; short = h; no-event-keeps = λ q. (refl, refl) }
+use Rattle.bench_limits.specs.Limits.{last_message}
 
 -- nothing
 pub turned_nothing : (b : Bench) (l : Lent) (at : ℕ) (out : List ℕ) → b.sent ≤ last_message → Turned b l at out (passes (world_in b l)) (record { bench = b; used = at }) l out

@@ -1,5 +1,5 @@
 -- A message to each brick, one row after the other.
-use mathlib.Core.Path.{◌≡◌, sym, ap, ap₂, subst, ◌∙◌}
+use mathlib.Core.Path.{◌≡◌, refl, sym, ap, ap₂, subst, ◌∙◌}
 use mathlib.Core.List.{List, [], ◌∷◌, ◌++◌, append_assoc, append-nil}
 use Prim.Native.Nat.{ℕ, ◌+◌, ◌-◌, ◌*◌, ◌≤◌, ◌<◌}
 use native.Mathlib.Omega.{arith}
@@ -15,10 +15,9 @@ use Rattle.message.specs.Kinds.{write_kind, modify_kind}
 use Rattle.message.specs.declared.Message.{Message}
 use Rattle.register.specs.Driver.{with_blocks}
 use Rattle.register.specs.Runs.{Item, message, block_for, old_for, to_all}
-use Rattle.settings.specs.declared.Settings.{Settings}
 use Rattle.bench_sent.specs.Sent.{items_of}
 use Rattle.bench_sent.specs.Workers.{Coded, Added, Sends}
-use Rattle.bench_sent.specs.Workers.{One}
+use Rattle.bench_sent.specs.Workers.{One, Picked}
 use Rattle.bench_limits.specs.Limits.{bench_size}
 
 -- a brick's block is within the buffer
@@ -41,51 +40,55 @@ cut_block : (size j : ℕ) (all block : List ℕ) → block ≡ take (j * size +
 unfolding block_of
 cut_block size j all block e = let cut : j * size + size - j * size ≡ size = omega arith in e ∙ ap (λ (x : ℕ). take x (drop (j * size) all)) cut
 
--- what stands in row at is what the driver sends to brick j
-module _ (at j size : ℕ) (msg : Message) (blocks stripe coded block old numbers bytes numbers' bytes' : List ℕ)
-    (a : Added at block numbers bytes numbers' bytes' (message j msg block old)) where
-  one_by : length block ≡ size
-      → ((s : Settings) → s.size ≡ size → block ≡ block_for s (with_blocks size msg blocks stripe coded) j)
-      → ((s : Settings) → s.size ≡ size → old ≡ old_for s (with_blocks size msg blocks stripe coded))
-      → One at j size msg blocks stripe coded numbers bytes numbers' bytes'
-  one_by l f g =
-      record {
-        items = λ s es. (
-            a.items size l ∙ ap₂ (λ (b o : List ℕ). items_of size numbers bytes at ++ message j msg b o ∷ []) (f s es) (g s es)
-            );
-      }
-
+module _ (j size : ℕ) (msg : Message) (blocks stripe coded : List ℕ) where
   -- with a Write goes block j,
-  pub sent_write : msg.kind ≡ write_kind → j * size + size ≤ length coded
-      → block ≡ take (j * size + size - j * size) (drop (j * size) coded) → old ≡ replicate size 0
-      → One at j size msg blocks stripe coded numbers bytes numbers' bytes'
-  unfolding block_for old_for with_blocks
-  sent_write e h eb eo =
-      let own = cut_block size j coded block eb in
+  pub picked_write : (none : List ℕ) → msg.kind ≡ write_kind → Coded (j + 1) size msg blocks stripe coded → none ≡ replicate size 0
+      → Picked j size msg blocks stripe coded (take (j * size + size - j * size) (drop (j * size) coded)) none
+  unfolding block_for old_for with_blocks zeros
+  picked_write none e c z =
       let w = eq-eqb msg.kind write_kind e in
       let m = ne_eqb msg.kind modify_kind (λ q. omega arith) in
-      one_by (ap length eb ∙ part_length size coded (j * size) h) (λ s es. own ∙ rw (w, m, es)) (λ s es. eo ∙ rw (m, es))
+      record {
+        long = part_length size coded (j * size) (block_within (j + 1) j size msg blocks stripe coded c (omega arith) e);
+        old-long = ap length z ∙ zeros_length size;
+        block-is = λ s es. cut_block size j coded _ refl ∙ rw (w, m, es) refl;
+        old-is = λ s es. z ∙ rw (m, es) refl;
+      }
 
   -- with Modify the new and the old block,
-  pub sent_modify : msg.kind ≡ modify_kind → msg.block * size + size ≤ length stripe
-      → block ≡ take (msg.block * size + size - msg.block * size) (drop (msg.block * size) stripe)
-      → old ≡ take (msg.block * size + size - msg.block * size) (drop (msg.block * size) blocks)
-      → One at j size msg blocks stripe coded numbers bytes numbers' bytes'
+  pub picked_modify : msg.kind ≡ modify_kind → Coded (j + 1) size msg blocks stripe coded
+      → Picked j size msg blocks stripe coded (take (msg.block * size + size - msg.block * size) (drop (msg.block * size) stripe))
+      (take (msg.block * size + size - msg.block * size) (drop (msg.block * size) blocks))
   unfolding block_for old_for with_blocks
-  sent_modify e h eb eo =
-      let own = cut_block size msg.block stripe block eb in
+  picked_modify e c =
       let w = ne_eqb msg.kind write_kind (λ q. omega arith) in
       let m = eq-eqb msg.kind modify_kind e in
-      one_by (ap length eb ∙ part_length size stripe (msg.block * size) h) (λ s es. own ∙ rw (w, m)) (λ s es. cut_block size msg.block blocks old eo ∙ rw m)
+      record {
+        long = part_length size stripe (msg.block * size) (c.new-there e);
+        old-long = part_length size blocks (msg.block * size) (c.old-there e);
+        block-is = λ s es. cut_block size msg.block stripe _ refl ∙ rw (w, m) refl;
+        old-is = λ s es. cut_block size msg.block blocks _ refl ∙ rw m refl;
+      }
 
   -- and with any other zeros
-  pub sent_zeros : (msg.kind ≡ write_kind → ⊥) → (msg.kind ≡ modify_kind → ⊥) → block ≡ replicate size 0 → old ≡ replicate size 0
-      → One at j size msg blocks stripe coded numbers bytes numbers' bytes'
+  pub picked_zeros : (none : List ℕ) → (msg.kind ≡ write_kind → ⊥) → (msg.kind ≡ modify_kind → ⊥) → none ≡ replicate size 0
+      → Picked j size msg blocks stripe coded none none
   unfolding block_for old_for with_blocks zeros
-  sent_zeros e f eb eo =
+  picked_zeros none e f z =
       let w = ne_eqb msg.kind write_kind e in
       let m = ne_eqb msg.kind modify_kind f in
-      one_by (ap length eb ∙ zeros_length size) (λ s es. eb ∙ rw (w, m, es)) (λ s es. eo ∙ rw (m, es))
+      let l : length none ≡ size = ap length z ∙ zeros_length size in
+      record { long = l; old-long = l; block-is = λ s es. z ∙ rw (w, m, es) refl; old-is = λ s es. z ∙ rw (m, es) refl }
+
+  -- what stands in row at is what the driver sends to brick j
+  pub one_by : (at : ℕ) (block old numbers bytes numbers' bytes' : List ℕ) → Picked j size msg blocks stripe coded block old
+      → Added at block numbers bytes numbers' bytes' (message j msg block old) → One at j size msg blocks stripe coded numbers bytes numbers' bytes'
+  one_by at block old numbers bytes numbers' bytes' p a =
+      record {
+        items = λ s es. (
+            a.items size p.long ∙ ap₂ (λ (b o : List ℕ). items_of size numbers bytes at ++ message j msg b o ∷ []) (p.block-is s es) (p.old-is s es)
+            );
+      }
 
 -- none, and one more
 pub sends_none : (k size : ℕ) (msg : Message) (blocks stripe coded numbers bytes : List ℕ)
@@ -117,17 +120,7 @@ sends_more k j size msg blocks stripe coded numbers bytes numbers' bytes' number
           );
     }
 
-pub sends_all : (k n j size : ℕ) (msg : Message) (blocks stripe coded numbers bytes numbers' bytes' : List ℕ) → n ≤ j → j ≤ n
-    → Sends k j size msg blocks stripe coded numbers bytes numbers' bytes' → Sends k n size msg blocks stripe coded numbers bytes numbers' bytes'
-sends_all k n j size msg blocks stripe coded numbers bytes numbers' bytes' l h a =
-    let e : j ≡ n = omega arith in
-    subst (λ (x : ℕ). Sends k x size msg blocks stripe coded numbers bytes numbers' bytes') e a
-
 -- the zeros that stand for a block
 pub zeros_cut : (size : ℕ) → size ≤ bench_size → take {A = ℕ} size (replicate bench_size 0) ≡ replicate size 0
 unfolding zeros
 zeros_cut size h = zeros_take bench_size size h
-
-pub zeros_cut_long : (size : ℕ) → size ≤ bench_size → length (take {A = ℕ} size (replicate bench_size 0)) ≡ size
-unfolding zeros
-zeros_cut_long size h = ap length (zeros_cut size h) ∙ zeros_length size

@@ -1,12 +1,11 @@
 -- Rows stored and read back.
 use mathlib.Core.Path.{◌≡◌, refl, sym, ap, ap₂, ◌∙◌}
-use mathlib.Core.Bool.{true, false, not}
+use mathlib.Core.Bool.{true, false}
 use mathlib.Core.List.{List, [], ◌∷◌, ◌++◌}
 use Prim.Native.Nat.{ℕ, zero, suc, ◌+◌, ◌-◌, ◌*◌, ◌%◌, ◌≤◌, ◌<◌}
 use native.Mathlib.Omega.{arith}
 use native.Mathlib.Nat.{mod-eq_of_lt}
 use native.Mathlib.Numerals.{add-one}
-use lib.Dec.{eqb}
 use lib.ListN.{length, take, drop, get_or, get_or-append}
 use lib.Seq.{length-take-le, get_or-append-add, get_or-take}
 use Rattle.byte_lists.specs.Lists.{zeros, put}
@@ -14,12 +13,11 @@ use Rattle.byte_lists.proofs.Laws.PutLaws.{put_is, put_length, put_in, put_first
 use Rattle.message.specs.declared.Message.{Message}
 use Rattle.message.specs.declared.Reply.{Reply}
 use Rattle.register.specs.Runs.{Item, message, reply}
-use Rattle.settings.specs.Count.{one_if}
 use Rattle.settings.proofs.Laws.CountLaws.{one_is}
 use Rattle.bench_sent.specs.Sent.{number_at, is_reply, flags_at, sent_block_at, old_block_at, message_at, reply_at, item_at, items_of}
-use Rattle.bench_sent.specs.Workers.{Added, sent_row, message_row, reply_row, numbers_with, bytes_with, old_with, no_flags}
-use Rattle.bench_limits.specs.Limits.{bench_size, row_numbers, row_bytes, tag_place, brick_place, kind_place, time_place, round_place, max_place, found_place}
-use Rattle.bench_limits.specs.Limits.{yes_place, held_place, stripe_place, old_time_place, data_block_place, comparison_place, message_tag, reply_tag}
+use Rattle.bench_sent.specs.Workers.{Added, message_row, reply_row, numbers_with, bytes_with, old_with, no_flags}
+use Rattle.bench_limits.specs.Limits.{bench_size, row_numbers, row_bytes, tag_place, brick_place, kind_place, time_place, round_place, max_place}
+use Rattle.bench_limits.specs.Limits.{yes_place, held_place, stripe_place, old_time_place, data_block_place, comparison_place}
 use Rattle.bench_limits.specs.Limits.{flag_count, block_place, old_block_place}
 
 -- a number that was put is found there
@@ -153,12 +151,6 @@ module _ (k : ℕ) (row flags block numbers bytes : List ℕ)
               ∙ stored_below.same_bytes;
         }
 
--- two stores make a row of bytes, and one a row of numbers
-pub bytes_stored : (k : ℕ) (flags block bytes mid bytes' : List ℕ) → mid ≡ put (k * row_bytes) flags bytes → bytes' ≡ put (k * row_bytes + block_place) block mid
-    → bytes' ≡ bytes_with k flags block bytes
-unfolding bytes_with
-bytes_stored k flags block bytes mid bytes' e f = f ∙ ap (put (k * row_bytes + block_place) block) e
-
 -- a message's row is read back as the message
 message_read : (k brick : ℕ) (msg : Message) (block old numbers bytes : List ℕ) → msg.kind < 256 → length msg.targets ≡ flag_count → length block ≤ bench_size
     → length old ≡ length block
@@ -242,34 +234,6 @@ reply_added k r block numbers bytes numbers' bytes' hk hc nb hn hb en eb =
           );
     }
 
-pub message_put : (k brick kind : ℕ) (msg : Message) (block old numbers bytes numbers' mid bytes' : List ℕ) → kind ≡ msg.kind → kind < 256
-    → length msg.targets ≡ flag_count → length block ≤ bench_size → k * row_numbers + row_numbers ≤ length numbers → k * row_bytes + row_bytes ≤ length bytes
-    → length old ≡ length block
-    → numbers' ≡ put (k * row_numbers) (sent_row message_tag brick kind msg.time msg.round msg.max 0 0 msg.stripe msg.old msg.block 0) numbers
-    → mid ≡ bytes_with k msg.targets block bytes → bytes' ≡ put (k * row_bytes + old_block_place) old mid
-    → (numbers' ≡ numbers_with k (message_row brick msg) numbers)
-    × ((bytes' ≡ old_with k old (bytes_with k msg.targets block bytes))
-    × Added k block numbers bytes numbers' bytes' (message brick msg block old))
-unfolding numbers_with message_row old_with
-message_put k brick kind msg block old numbers bytes numbers' mid bytes' ek hk nf nb hn hb lo en em eb =
-    let e : numbers' ≡ numbers_with k (message_row brick msg) numbers = en ∙ rw ek in
-    let f : bytes' ≡ old_with k old (bytes_with k msg.targets block bytes) = eb ∙ ap (put (k * row_bytes + old_block_place) old) em in
-    (e, (f, message_added k brick msg block old numbers bytes numbers' bytes' (omega arith) nf nb lo hn hb e f))
-
-pub reply_put : (k kind y h said : ℕ) (r : Reply) (block numbers bytes numbers' bytes' : List ℕ) → kind ≡ r.kind → kind < 256
-    → y ≡ one_if r.yes → h ≡ one_if r.held → said ≡ r.comparison → said < 256
-    → length block ≤ bench_size → k * row_numbers + row_numbers ≤ length numbers → k * row_bytes + row_bytes ≤ length bytes
-    → numbers' ≡ put (k * row_numbers) (sent_row reply_tag r.brick kind r.time r.round r.found y h r.stripe 0 0 said) numbers
-    → bytes' ≡ bytes_with k no_flags block bytes
-    → (numbers' ≡ numbers_with k (reply_row r) numbers)
-    × ((bytes' ≡ bytes_with k no_flags block bytes)
-    × Added k block numbers bytes numbers' bytes' (reply r block))
-unfolding numbers_with reply_row
-reply_put k kind y h said r block numbers bytes numbers' bytes' ek hk ey eh ec hc nb hn hb en eb =
-    let e : numbers' ≡ numbers_with k (reply_row r) numbers
-    = en ∙ rw (ek, ey, eh, ec) in
-    (e, (eb, reply_added k r block numbers bytes numbers' bytes' (omega arith) (omega arith) nb hn hb e eb))
-
 -- a row as its reader takes it apart
 pub item_message : (size k b : ℕ) (msg : Message) (block old numbers bytes : List ℕ) → is_reply numbers k ≡ false → b ≡ number_at numbers k brick_place
     → msg ≡ message_at numbers bytes k → block ≡ sent_block_at size bytes k → old ≡ old_block_at size bytes k
@@ -297,29 +261,3 @@ pub old_cut : (size k from till : ℕ) (bytes : List ℕ) → from ≡ k * row_b
     → take (till - from) (drop from bytes) ≡ old_block_at size bytes k
 unfolding old_block_at
 old_cut size k from till bytes ef et = part_cut size (k * row_bytes + old_block_place) from till bytes ef et
-
-pub flags_cut : (k : ℕ) (bytes flags : List ℕ) → flags ≡ take (k * row_bytes + block_place - k * row_bytes) (drop (k * row_bytes) bytes) → flags ≡ flags_at bytes k
-unfolding flags_at
-flags_cut k bytes flags f =
-    let e : k * row_bytes + block_place - k * row_bytes ≡ flag_count = omega arith in
-    f ∙ ap (λ (a : ℕ). take a (drop (k * row_bytes) bytes)) e
-
--- the parts of a row make the message, and the reply
-pub message_of_lem : (k kind stripe time round max old block : ℕ) (targets numbers bytes : List ℕ) → kind ≡ number_at numbers k kind_place % 256
-    → stripe ≡ number_at numbers k stripe_place → time ≡ number_at numbers k time_place → round ≡ number_at numbers k round_place → max ≡ number_at numbers k max_place
-    → old ≡ number_at numbers k old_time_place → block ≡ number_at numbers k data_block_place → targets ≡ flags_at bytes k
-    → record { kind = kind; stripe = stripe; time = time; round = round; max = max; old = old; block = block; targets = targets } ≡ message_at numbers bytes k
-unfolding message_at
-message_of_lem k kind stripe time round max old block targets numbers bytes e2 e8 e3 e4 e5 e9 e10 f = rw (e2, e8, e3, e4, e5, e9, e10, f)
-
-pub reply_of : (k kind brick stripe time round found y h said : ℕ) (numbers : List ℕ) → kind ≡ number_at numbers k kind_place % 256
-    → brick ≡ number_at numbers k brick_place → stripe ≡ number_at numbers k stripe_place → time ≡ number_at numbers k time_place → round ≡ number_at numbers k round_place
-    → found ≡ number_at numbers k found_place
-    → y ≡ number_at numbers k yes_place → h ≡ number_at numbers k held_place → said ≡ number_at numbers k comparison_place % 256
-    → record { kind = kind; brick = brick; stripe = stripe; time = time; round = round; yes = eqb y 1; found = found; held = eqb h 1; comparison = said } ≡ reply_at numbers k
-unfolding reply_at
-reply_of k kind brick stripe time round found y h said numbers e2 e1 e8 e3 e4 e5 e6 e7 e11 = rw (e2, e1, e8, e3, e4, e5, e6, e7, e11)
-
-pub is_reply_lem : (k tag : ℕ) (numbers : List ℕ) → tag ≡ number_at numbers k tag_place → not (eqb tag message_tag) ≡ is_reply numbers k
-unfolding is_reply
-is_reply_lem k tag numbers e = rw e

@@ -1,29 +1,13 @@
 -- The digits of a write.
-use mathlib.Core.Path.{◌≡◌, refl, sym, ap, ◌∙◌}
-use mathlib.Core.Bool.{Bool, true, false, cond, not, ◌&&◌}
+use mathlib.Core.Path.{◌≡◌, ap, ◌∙◌}
+use mathlib.Core.Bool.{Bool, cond}
 use mathlib.Core.List.{List}
-use Prim.Native.Nat.{ℕ, ◌-◌, ◌*◌}
+use Prim.Native.Nat.{ℕ, ◌*◌}
 use lib.Dec.{eqb}
-use lib.ListN.{length, drop, replicate, length-drop, length-replicate}
-use borrow.Author.Tests.{eq-eqb, ne_eqb}
+use lib.ListN.{length, replicate, length-replicate}
 use Rattle.settings.specs.declared.Settings.{Settings}
 use Rattle.bench_parse.specs.Lines.{bytes_of}
 use Rattle.bench_rules.specs.Content.{counted, content}
-
-pub short_zero : (k : ℕ) (ok : Bool) → k ≡ 0 → not ok ≡ (eqb k 0 && not ok)
-short_zero k ok e = rw (eq-eqb k 0 e) refl
-
-pub short_other : (k : ℕ) (ok : Bool) → (k ≡ 0 → ⊥) → false ≡ (eqb k 0 && not ok)
-short_other k ok e = rw (ne_eqb k 0 e) refl
-
-pub digits_wrong : (line cont : List ℕ) (hex : ℕ) → (length line - hex ≡ 2 * length cont → ⊥)
-    → (false ≡ eqb (length (drop hex line)) (2 * length cont)) × (cont ≡ cond false (bytes_of (drop hex line)) cont)
-digits_wrong line cont hex h =
-    (sym (ne_eqb (length (drop hex line)) (2 * length cont) (λ e. h (sym (length-drop hex line) ∙ e))), refl)
-
-pub digits_right : (line cont cont' : List ℕ) (hex : ℕ) → length line - hex ≡ 2 * length cont → cont' ≡ bytes_of (drop hex line)
-    → (true ≡ eqb (length (drop hex line)) (2 * length cont)) × (cont' ≡ cond true (bytes_of (drop hex line)) cont)
-digits_right line cont cont' hex h e = (sym (eq-eqb (length (drop hex line)) (2 * length cont) (length-drop hex line ∙ h)), e)
 
 pub content_long : (k : ℕ) (cont : List ℕ) → cont ≡ replicate k 0 → length cont ≡ k
 content_long k cont e = ap length e ∙ length-replicate k 0
@@ -38,3 +22,8 @@ module _ (s : Settings) (digits cont cont' : List ℕ) (ok : Bool) (ez : cont �
   unfolding content
   content_is e =
       e ∙ ap (λ (b : Bool). cond b (bytes_of digits) cont) count_is ∙ ap (λ (z : List ℕ). cond (counted s digits) (bytes_of digits) z) ez
+
+-- what holds of a list holds of one that is the same
+pub at_same : {R : Type 0} (g : List ℕ → List ℕ → List ℕ → R) (f : List ℕ → List ℕ → R) (s t : List ℕ) → t ≡ s → ((x z : List ℕ) → g x s z ≡ f x z)
+    → (x z : List ℕ) → g x t z ≡ f x z
+at_same g f s t e h x z = ap (λ (y : List ℕ). g x y z) e ∙ h x z

@@ -1,10 +1,10 @@
 -- Settings within the bench's limits.
-use mathlib.Core.Path.{◌≡◌, refl, sym, ap, ◌∙◌}
-use mathlib.Core.Bool.{Bool, true, false, ◌&&◌}
+use mathlib.Core.Path.{◌≡◌, sym, ap, ◌∙◌}
+use mathlib.Core.Bool.{Bool, true, ◌&&◌}
 use Prim.Native.Nat.{ℕ, ◌≤◌}
 use native.Mathlib.Omega.{arith}
 use native.Mathlib.Nat.{mul-le-mul}
-use lib.Dec.{eqb, leb}
+use lib.Dec.{leb}
 use borrow.Author.Tests.{leb-true, eqb-true}
 use Rattle.settings.specs.Ranges.{in_range, settings_refusal}
 use Rattle.settings.proofs.Laws.RangeLaws.{settings_passed}
@@ -18,24 +18,6 @@ use Rattle.bench_state.specs.State.{bench_limits, bench_range}
 use Rattle.bench_state.specs.Workers.{bench_refusal}
 use Rattle.bench_state.specs.Workers.{Fits}
 use Rattle.bench_limits.specs.Limits.{bench_bricks, bench_capacity, bench_size, bench_stripes}
-
-pub bench_bad : (s : Settings) (k : ℕ) → k ≡ settings_refusal s → (k ≡ 0 → ⊥) → bad_setting ≡ bench_refusal s
-unfolding settings_refusal bench_refusal bench_range
-bench_bad s k e h = go (in_range s) (bench_limits s) e
-  where
-    go : (a b : Bool) → k ≡ refuse_unless a bad_setting → bad_setting ≡ refuse_unless (a && b) bad_setting
-    go true b d = absurd (h d)
-    go false b d = refl
-
-pub bench_rest : (s : Settings) (k v : ℕ) → k ≡ settings_refusal s → k ≡ 0
-    → v ≡ refuse_unless (leb s.n bench_bricks && leb s.size bench_size && leb s.capacity bench_capacity && eqb s.stripes bench_stripes) bad_setting
-    → v ≡ bench_refusal s
-unfolding settings_refusal bench_refusal bench_range bench_limits
-bench_rest s k v e h r = r ∙ go (in_range s) (bench_limits s) e
-  where
-    go : (a b : Bool) → k ≡ refuse_unless a bad_setting → refuse_unless b bad_setting ≡ refuse_unless (a && b) bad_setting
-    go true b d = refl
-    go false b d = absurd (omega arith)
 
 -- a row of the bench is one image
 pub row_of_one : (s : Settings) → s.stripes ≡ bench_stripes → row_size s ≡ image_size s

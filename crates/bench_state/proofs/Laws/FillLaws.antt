@@ -5,9 +5,9 @@ use mathlib.Core.Bool.{true, cond}
 use mathlib.Core.List.{List, []}
 use Prim.Native.Nat.{ℕ, ◌+◌, ◌-◌, ◌*◌, ◌≤◌, ◌<◌}
 use native.Mathlib.Omega.{arith}
-use native.Mathlib.Nat.{not-suc-le-zero, eq-or-lt_of_le}
+use native.Mathlib.Nat.{eq-or-lt_of_le}
 use lib.Dec.{eqb}
-use lib.ListN.{length, take, drop, length-drop}
+use lib.ListN.{length, take, drop, replicate, length-drop}
 use lib.Seq.{length-take-le}
 use borrow.Author.Tests.{eq-eqb, lt-ltb}
 use borrow.Rule.Slice.PartMut.{put_mid}
@@ -16,26 +16,21 @@ use Rattle.volume.specs.Rows.{row_size, fresh_row, row_lending_refusal, fresh_ro
 use Rattle.settings.specs.Ranges.{in_range, settings_refusal}
 use Rattle.settings.specs.declared.Settings.{Settings}
 use Rattle.image.specs.Image.{image_size}
-use Rattle.byte_lists.specs.Lists.{put, zeros}
-use Rattle.byte_lists.proofs.Laws.ZeroLaws.{zero_list}
+use Rattle.byte_lists.specs.Lists.{put}
 use Rattle.byte_lists.proofs.Laws.PutLaws.{put_mid_lem, put_length, put_in, put_before}
 use Rattle.bench_state.specs.State.{world_of}
 use Rattle.bench_state.specs.Workers.{fresh_bench}
 use Rattle.bench_state.specs.Workers.{Small}
 use Rattle.bench_state.proofs.Laws.BenchRangeLaws.{row_of_one}
 use Rattle.bench_state.proofs.Laws.StateLaws.{fresh_world}
-use Rattle.bench_state.specs.declared.Bench.{Bench}
 use Rattle.register.specs.Runs.{fresh_set}
 use Rattle.bench_state.specs.Workers.{Begun}
-use Rattle.bench_limits.specs.Limits.{kept_length, image_room, images_length}
+use Rattle.bench_limits.specs.Limits.{kept_length, image_room}
 use Rattle.image_block.specs.Block.{block_bytes}
 
 lending_passes : (s : Settings) (brick len : ℕ) → in_range s ≡ true → len ≡ row_size s → brick < s.n → row_lending_refusal s brick len ≡ 0
 unfolding row_lending_refusal settings_refusal first_refusal
 lending_passes s brick len r e l = rw (r, eq-eqb len (row_size s) e, lt-ltb brick s.n l) refl
-
-pub begun_none : (s : Settings) (images : List ℕ) → length images ≡ images_length → Begun s images 0
-begun_none s images e = record { long = e; images-fresh = λ b h. absurd (not-suc-le-zero h) }
 
 pub begun_more : (s : Settings) (images new : List ℕ) (k : ℕ) → Small s → Begun s images k → k < s.n → length new ≡ row_size s
     → new ≡ fresh_row s k → Begun s (put (k * image_room) new images) (k + 1)
@@ -78,8 +73,6 @@ begun_stored s images new k len small r h l e el f =
     passes : (t : List ℕ) → length t ≡ row_size s → row_lending_refusal s k (length t) ≡ 0
     passes t long = lending_passes s k (length t) r long l
 
--- a set that began, by what the parts of its beginning gave
-pub set_begun : (s : Settings) (b : Bench) (images kept : List ℕ) (k : ℕ) → Small s → b ≡ fresh_bench s → Begun s images s.n → kept ≡ zeros k → k ≡ kept_length
-    → (b ≡ fresh_bench s) × (world_of b images kept [] ≡ fresh_set s)
-set_begun s b images kept k small e h z l =
-    (e, ap (λ (x : Bench). world_of x images kept []) e ∙ fresh_world s small images kept h.images-fresh (z ∙ ap (λ (j : ℕ). zeros j) l ∙ zero_list kept_length))
+-- a set that began
+pub set_begun : (s : Settings) (images kept : List ℕ) → Small s → Begun s images s.n → kept ≡ replicate kept_length 0 → world_of (fresh_bench s) images kept [] ≡ fresh_set s
+set_begun s images kept small h z = fresh_world s small images kept h.images-fresh z

@@ -14,7 +14,7 @@ use Rattle.image.specs.Brick.{Brick}
 use Rattle.brick_log.specs.BrickRules.{reply_to}
 use Rattle.brick.specs.Receive.{beside, receive_refusal, refused_with, given_by, accepted, outcome}
 use Rattle.brick.specs.Receive.{given_number}
-use Rattle.brick.specs.declared.Given.TheVariants.{Answered, Silent}
+use Rattle.brick.specs.Receive.{Answered, Silent}
 use Rattle.brick.proofs.Laws.OutcomeLaws.{passes}
 
 -- what an image that opens gives has number 0

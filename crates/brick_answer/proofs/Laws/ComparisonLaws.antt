@@ -1,67 +1,12 @@
 -- The ways through the comparisons; a yes is that none said no, and what a no says is such as its kind allows.
-use mathlib.Core.Path.{◌≡◌, refl, sym, ◌∙◌}
+use mathlib.Core.Path.{◌≡◌, refl, sym}
 use mathlib.Core.Bool.{Bool, true, false, cond, not, ◌&&◌}
-use Prim.Native.Nat.{ℕ, ◌<◌}
-use native.Mathlib.Omega.{arith}
-use native.Mathlib.Decide.{dec_lt}
-use lib.Dec.{eqb, leb, ltb}
-use borrow.Author.Tests.{lt-ltb, le-ltb, le-leb, lt-leb, eq-eqb, ne_eqb}
-use Rattle.message.specs.Kinds.{read_kind, modify_kind, no_comparison, newer_time, promise_ahead, full_log}
+use Prim.Native.Nat.{ℕ}
+use lib.Dec.{eqb}
+use Rattle.message.specs.Kinds.{read_kind, no_comparison, newer_time, promise_ahead, full_log}
 use Rattle.message.specs.Messages.{stores_entry, compares, comparison_right}
 use Rattle.message.specs.declared.Message.{Message}
-use Rattle.brick_answer.specs.Comparisons.{above_newest, not_below_promise, has_free, newer_says_no, promise_says_no, full_says_no, none_says_no, first_no}
-
--- a strict comparison turned round
-not_below : (a b : ℕ) → leb a b ≡ not (ltb b a)
-not_below a b = go (dec_lt b a)
-  where
-    go : Dec (b < a) → leb a b ≡ not (ltb b a)
-    go (yes h) = lt-leb a b h ∙ sym (rw (lt-ltb b a h) refl)
-    go (no h) = le-leb a b (omega arith) ∙ sym (rw (le-ltb b a (omega arith)) refl)
-
-below_not : (a b : ℕ) → ltb a b ≡ not (leb b a)
-below_not a b = go (dec_lt a b)
-  where
-    go : Dec (a < b) → ltb a b ≡ not (leb b a)
-    go (yes h) = lt-ltb a b h ∙ sym (rw (lt-leb b a h) refl)
-    go (no h) = le-ltb a b (omega arith) ∙ sym (rw (le-leb b a (omega arith)) refl)
-
--- the newest time
-pub newer_read : (newest : ℕ) (msg : Message) → msg.kind ≡ read_kind → false ≡ newer_says_no newest msg
-unfolding newer_says_no
-newer_read newest msg e = rw (eq-eqb msg.kind read_kind e)
-
-pub newer_other : (newest : ℕ) (msg : Message) → (msg.kind ≡ read_kind → ⊥) → msg.kind ≡ modify_kind → (newest ≡ msg.old → ⊥) → true ≡ newer_says_no newest msg
-unfolding newer_says_no
-newer_other newest msg a e n = sym (rw (ne_eqb msg.kind read_kind a, eq-eqb msg.kind modify_kind e, ne_eqb newest msg.old n) refl)
-
-pub newer_modify : (newest : ℕ) (msg : Message) → (msg.kind ≡ read_kind → ⊥) → msg.kind ≡ modify_kind → newest ≡ msg.old
-    → leb msg.time newest ≡ newer_says_no newest msg
-unfolding newer_says_no above_newest
-newer_modify newest msg a e o =
-    not_below msg.time newest ∙ sym (rw (ne_eqb msg.kind read_kind a, eq-eqb msg.kind modify_kind e, eq-eqb newest msg.old o) refl)
-
-pub newer_else : (newest : ℕ) (msg : Message) → (msg.kind ≡ read_kind → ⊥) → (msg.kind ≡ modify_kind → ⊥) → leb msg.time newest ≡ newer_says_no newest msg
-unfolding newer_says_no above_newest
-newer_else newest msg a b = not_below msg.time newest ∙ sym (rw (ne_eqb msg.kind read_kind a, ne_eqb msg.kind modify_kind b) refl)
-
--- the promise
-pub promise_read : (newest promise : ℕ) (msg : Message) → msg.kind ≡ read_kind → ltb newest promise ≡ promise_says_no newest promise msg
-unfolding promise_says_no not_below_promise
-promise_read newest promise msg e = below_not newest promise ∙ sym (rw (eq-eqb msg.kind read_kind e) refl)
-
-pub promise_else : (newest promise : ℕ) (msg : Message) → (msg.kind ≡ read_kind → ⊥) → ltb msg.time promise ≡ promise_says_no newest promise msg
-unfolding promise_says_no not_below_promise
-promise_else newest promise msg a = below_not msg.time promise ∙ sym (rw (ne_eqb msg.kind read_kind a) refl)
-
--- a full log
-pub full_stores : (capacity count : ℕ) (msg : Message) (b : Bool) → b ≡ stores_entry msg.kind → b ≡ true → leb capacity count ≡ full_says_no capacity count msg
-unfolding full_says_no has_free
-full_stores capacity count msg b e t = not_below capacity count ∙ sym (rw (← e, t) refl)
-
-pub full_else : (capacity count : ℕ) (msg : Message) (b : Bool) → b ≡ stores_entry msg.kind → b ≡ false → false ≡ full_says_no capacity count msg
-unfolding full_says_no
-full_else capacity count msg b e t = sym (rw (← e, t) refl)
+use Rattle.brick_answer.specs.Comparisons.{newer_says_no, promise_says_no, full_says_no, none_says_no, first_no}
 
 -- the first that says no
 module _ (capacity count newest promise : ℕ) (msg : Message) (a : Bool) (ea : a ≡ newer_says_no newest msg) where
@@ -74,14 +19,9 @@ module _ (capacity count newest promise : ℕ) (msg : Message) (a : Bool) (ea : 
     unfolding first_no
     first_promise tb = sym (rw (← ea, ← eb, ta, tb) refl)
 
-    module _ (d : Bool) (tb : b ≡ false) (ed : d ≡ full_says_no capacity count msg) where
-      pub first_full : d ≡ true → full_log ≡ first_no capacity count newest promise msg
-      unfolding first_no
-      first_full td = sym (rw (← ea, ← eb, ← ed, ta, tb, td) refl)
-
-      pub first_none : d ≡ false → no_comparison ≡ first_no capacity count newest promise msg
-      unfolding first_no
-      first_none td = sym (rw (← ea, ← eb, ← ed, ta, tb, td) refl)
+    pub first_full : (d : Bool) → b ≡ false → d ≡ full_says_no capacity count msg → d ≡ true → full_log ≡ first_no capacity count newest promise msg
+    unfolding first_no
+    first_full d tb ed td = sym (rw (← ea, ← eb, ← ed, ta, tb, td) refl)
 
 module _ (capacity count newest promise : ℕ) (msg : Message) where
   -- a yes names no comparison, and a no one

@@ -5,7 +5,7 @@ use mathlib.Core.List.{List}
 use Prim.Native.Nat.{ℕ, ◌+◌, ◌-◌, ◌*◌, ◌≤◌, ◌<◌}
 use native.Mathlib.Omega.{arith}
 use lib.Dec.{eqb, ltb}
-use lib.ListN.{length, take, drop, length-take}
+use lib.ListN.{length, take, drop}
 use borrow.Author.Tests.{lt-ltb, le-ltb, eq-eqb, ne_eqb}
 use Rattle.message.specs.Messages.{is_silent}
 use Rattle.message.specs.declared.Message.{Message}
@@ -23,18 +23,18 @@ use Rattle.image_write.proofs.Laws.ImageStepLaws.{promise_written, append_placed
 use Rattle.image_write.proofs.Laws.RemovedLaws.{Above, removed_written}
 use Rattle.erasure.specs.Recoding.{recoded_block}
 use Rattle.erasure.proofs.Laws.RecodingLaws.{recoded_length}
+use Rattle.std.specs.Prelude.{Option, Some, None, is_some}
+use Rattle.brick_answer.specs.Comparisons.{comparison_in}
+use Rattle.brick_answer.specs.declared.Comparison.{Comparison}
+use Rattle.brick_answer.specs.declared.Comparison.TheVariants.{NewerTime, PromiseAhead, FullLog}
 use Rattle.brick_log.specs.BrickRules.{newest_block, modified_entry, yes_to, comparison_to, brick_after}
 use Rattle.brick_log.proofs.Laws.AnsweredLaws.{after_read_lem, yes_write, yes_modify, said_none, said_one, no_changes_nothing, write_appends, modify_appends}
 use Rattle.brick_log.proofs.Laws.AnsweredLaws.{order_promises, write_free, modify_written}
 use Rattle.brick_log.specs.Workers.{LogReady, RemoveReady, removed_by}
 use Rattle.brick_log.specs.declared.Known.{Known}
-use Rattle.brick_log.specs.declared.Plan.{Plan}
+use Rattle.brick_log.specs.declared.Removal.{Removal}
 use Rattle.image_block.specs.Block.{block_bytes, held_from}
 use Rattle.message.specs.Kinds.{read_kind, write_kind, modify_kind, no_comparison}
-
--- the front of a buffer that is long enough
-pub prefix_length : (size : ℕ) (l : List ℕ) → size ≤ length l → length (take size l) ≡ size
-prefix_length size l h = let t = length-take size l in omega arith
 
 -- what Modify appends has the block size
 pub modified_sized : (s : Settings) (brick : ℕ) (x : Brick) (msg : Message) (new old : List ℕ) → Sound s x → length new ≡ s.size
@@ -136,7 +136,7 @@ module _ (s : Settings) (brick : ℕ) (l : List ℕ) (k : Known) (r : LogReady s
       (eo ∙ ap (λ (b : List ℕ). recoded_block s.n s.m brick j b old block) (newest_held a e ea ee))
 
   -- the blocks that are looked at where another block holds the entry right above are there
-  pub remove_places : (p : Plan) → RemoveReady (brick_in s l) k p → (p.cut ≡ 0 → ⊥) → (p.holder ≡ p.from + p.cut + 1 → ⊥)
+  pub remove_places : (p : Removal) → RemoveReady (brick_in s l) k p → (p.cut ≡ 0 → ⊥) → (p.holder ≡ p.from + p.cut + 1 → ⊥)
       → (block_bytes * (p.from + p.cut + 1 + 1) ≤ length l) × (block_bytes * (p.holder + 1) ≤ length l)
   unfolding image_size
   remove_places p ready some other =
@@ -147,7 +147,7 @@ module _ (s : Settings) (brick : ℕ) (l : List ℕ) (k : Known) (r : LogReady s
       )
 
   -- entries less: the entry right above gets its block, the others above move down, what is freed is cleared, and the head is written
-  pub remove_moved : (p : Plan) (l₀ l₁ l₂ after : List ℕ) → RemoveReady (brick_in s l) k p → (p.cut ≡ 0 → ⊥)
+  pub remove_moved : (p : Removal) (l₀ l₁ l₂ after : List ℕ) → RemoveReady (brick_in s l) k p → (p.cut ≡ 0 → ⊥)
       → l₀ ≡ held_own s.size (p.from + p.cut + 1) p.holder p.lowest l
       → l₁ ≡ shifted p.from p.cut (k.count - (p.from + p.cut)) l₀
       → l₂ ≡ cleared (k.count - p.cut + 1) (k.count + 1 - (k.count - p.cut + 1)) l₁
@@ -175,9 +175,20 @@ module _ (s : Settings) (brick : ℕ) (l : List ℕ) (k : Known) (r : LogReady s
           }
 
   -- nothing goes
-  pub remove_none : (p : Plan) → p.cut ≡ 0 → l ≡ image_of s brick (removed_by (brick_in s l) p)
+  pub remove_none : (p : Removal) → p.cut ≡ 0 → l ≡ image_of s brick (removed_by (brick_in s l) p)
   unfolding removed_by
   remove_none p e = r.saved.is-image ∙ ap (image_of s brick) (sym (rw (eq-eqb p.cut 0 e) refl))
+
+-- a comparison says no where it has a number
+pub told_none : (said : Option Comparison) → is_some said ≡ false → comparison_in said ≡ no_comparison
+told_none None e = refl
+told_none (Some c) e = cc
+
+pub told_some : (said : Option Comparison) → is_some said ≡ true → comparison_in said ≡ no_comparison → ⊥
+told_some None e q = cc
+told_some (Some NewerTime) e q = omega (arith, q)
+told_some (Some PromiseAhead) e q = omega (arith, q)
+told_some (Some FullLog) e q = omega (arith, q)
 
 -- a yes, by what the comparison said; where something is stored an entry is free
 module _ (s : Settings) (brick : ℕ) (l : List ℕ) (k : Known) (r : LogReady s brick l k) (msg : Message)

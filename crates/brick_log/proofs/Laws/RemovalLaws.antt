@@ -22,10 +22,11 @@ use Rattle.image.proofs.Laws.LogPlaceLaws.{rises_above, lowest_held_lem}
 use Rattle.image_write.specs.Workers.{removed}
 use Rattle.image_write.proofs.Laws.RemovedLaws.{removed_none, removed_no_mark, removed_by_holder}
 use Rattle.brick_log.specs.BrickRules.{trimmed_to, dropped_from}
-use Rattle.brick_log.specs.Workers.{LogReady, Removes, removed_by, log_time, time_in, looked_in, cut_for}
-use Rattle.brick_log.specs.Workers.{plan_of, remove_plan, trim_plan, drop_at, drop_in, drop_plan}
+use Rattle.brick_log.specs.Workers.{LogReady, Removes, Takes, removed_by, log_time, time_in, looked_in, cut_for}
+use Rattle.brick_log.specs.Workers.{removal, trim_plan, drop_at, drop_in, drop_plan}
 use Rattle.brick_log.specs.declared.Known.{Known}
 use Rattle.brick_log.specs.declared.Plan.{Plan}
+use Rattle.brick_log.specs.declared.Plan.TheVariants.{Remove, Nothing}
 use Rattle.brick_log.proofs.Laws.DropLaws.{First, drop_only, drop_absent, drop_at_lem}
 use Rattle.brick_log.proofs.Laws.LookLaws.{cut_for_lem, last_takes, last_takes_none}
 use Rattle.brick_log.proofs.Laws.TrimLaws.{cut_trims}
@@ -34,11 +35,6 @@ use Rattle.brick_log.proofs.Laws.TrimLaws.{cut_trims}
 no_mark_behind : (x : Brick) (i : ℕ) → entry_count x ≤ i → mark_at x i ≡ false
 unfolding entry_count mark_at no_entry
 no_mark_behind x i h = ap (λ (e : LogEntry). e.mark) (get_or-eq_default x.log no_entry {n = i} h)
-
--- a plan that takes nothing out
-pub removes_nothing : (x : Brick) (k : Known) (y : Brick) → y ≡ x → Removes x k (plan_of 0 0) y
-unfolding plan_of removed_by
-removes_nothing x k y e = record { ready = record { within = omega arith; above = λ z n. absurd (z refl) }; leaves = e }
 
 module _ (s : Settings) (brick : ℕ) (l : List ℕ) (k : Known) (r : LogReady s brick l k) where
   few : entry_count (brick_in s l) ≤ max_capacity
@@ -49,7 +45,7 @@ module _ (s : Settings) (brick : ℕ) (l : List ℕ) (k : Known) (r : LogReady s
 
   -- the first d entries
   front_removes : (d : ℕ) → d < entry_count (brick_in s l) → Removes (brick_in s l) k (trim_plan (working_log (brick_in s l)) d) (removed (brick_in s l) 0 d true)
-  unfolding trim_plan remove_plan removed_by
+  unfolding trim_plan removed_by
   front_removes d low =
       record {
         ready = record {
@@ -78,17 +74,18 @@ module _ (s : Settings) (brick : ℕ) (l : List ℕ) (k : Known) (r : LogReady s
       go (no e) = rw (ne_eqb d 0 e) (removed_by_holder (brick_in s l) 0 d holder own)
 
   -- a Trim
-  pub trim_removes : (t : ℕ) (p : Plan) → p ≡ trim_plan (working_log (brick_in s l)) (cut_for (working_log (brick_in s l)) (entry_count (brick_in s l)) t)
-      → Removes (brick_in s l) k p (trimmed_to (brick_in s l) t)
+  pub trim_removes : (t : ℕ) (p : Plan) → p ≡ Remove (trim_plan (working_log (brick_in s l)) (cut_for (working_log (brick_in s l)) (entry_count (brick_in s l)) t))
+      → Takes (brick_in s l) k p (trimmed_to (brick_in s l) t)
+  unfolding Takes
   trim_removes t p e =
       let d : ℕ = cut_for (working_log (brick_in s l)) (entry_count (brick_in s l)) t in
       let low = (cut_for_lem (working_log (brick_in s l)) (entry_count (brick_in s l)) t r.saved.keeps.count_low).low in
-      subst (λ (q : Plan). Removes (brick_in s l) k q (trimmed_to (brick_in s l) t)) (sym e)
+      subst (λ (q : Plan). Takes (brick_in s l) k q (trimmed_to (brick_in s l) t)) (sym e)
       (subst (Removes (brick_in s l) k (trim_plan (working_log (brick_in s l)) d)) (sym (cut_trims s (brick_in s l) t r.saved.keeps few)) (front_removes d low))
 
   -- one entry, of which none above means the block
-  free_removes : (i : ℕ) → i < entry_count (brick_in s l) → Removes (brick_in s l) k (remove_plan i 1 (i + 1 + 1) 0) (removed (brick_in s l) i 1 false)
-  unfolding remove_plan removed_by
+  free_removes : (i : ℕ) → i < entry_count (brick_in s l) → Removes (brick_in s l) k (removal i 1 (i + 1 + 1) 0) (removed (brick_in s l) i 1 false)
+  unfolding removed_by
   free_removes i low =
       record {
         ready = record { within = omega (arith, low, r.counts); above = λ z n. absurd (n refl) };
@@ -97,8 +94,8 @@ module _ (s : Settings) (brick : ℕ) (l : List ℕ) (k : Known) (r : LogReady s
 
   -- one entry, whose block the entry right above means
   held_removes : (i : ℕ) → i + 1 < entry_count (brick_in s l) → holder_of (working_log (brick_in s l)) (i + 1) ≡ i + 1
-      → Removes (brick_in s l) k (remove_plan i 1 (i + 1) (log_time (working_log (brick_in s l)) (i + 1))) (removed (brick_in s l) i 1 true)
-  unfolding remove_plan removed_by
+      → Removes (brick_in s l) k (removal i 1 (i + 1) (log_time (working_log (brick_in s l)) (i + 1))) (removed (brick_in s l) i 1 true)
+  unfolding removed_by
   held_removes i low e =
       record {
         ready = record {
@@ -139,8 +136,8 @@ module _ (s : Settings) (brick : ℕ) (l : List ℕ) (k : Known) (r : LogReady s
   one_removes i low = go (ℕ_discrete (i + 1) (entry_count (brick_in s l))) (ℕ_discrete (holder_of (working_log (brick_in s l)) (i + 1)) (i + 1))
     where
       free : removed (brick_in s l) i 1 (not (mark_at (brick_in s l) i)) ≡ removed (brick_in s l) i 1 false
-          → Removes (brick_in s l) k (remove_plan i 1 (i + 1 + 1) 0) (removed (brick_in s l) i 1 (not (mark_at (brick_in s l) i)))
-      free e = subst (Removes (brick_in s l) k (remove_plan i 1 (i + 1 + 1) 0)) (sym e) (free_removes i low)
+          → Removes (brick_in s l) k (removal i 1 (i + 1 + 1) 0) (removed (brick_in s l) i 1 (not (mark_at (brick_in s l) i)))
+      free e = subst (Removes (brick_in s l) k (removal i 1 (i + 1 + 1) 0)) (sym e) (free_removes i low)
 
       below : (i + 1 ≡ entry_count (brick_in s l) → ⊥) → i + 1 < entry_count (brick_in s l)
       below n = omega (arith, low, n)
@@ -151,9 +148,9 @@ module _ (s : Settings) (brick : ℕ) (l : List ℕ) (k : Known) (r : LogReady s
 
       go : Dec (i + 1 ≡ entry_count (brick_in s l)) → Dec (holder_of (working_log (brick_in s l)) (i + 1) ≡ i + 1)
           → Removes (brick_in s l) k
-          (cond (eqb (i + 1) (entry_count (brick_in s l))) (remove_plan i 1 (i + 1 + 1) 0)
-          (cond (eqb (holder_of (working_log (brick_in s l)) (i + 1)) (i + 1)) (remove_plan i 1 (i + 1) (log_time (working_log (brick_in s l)) (i + 1)))
-          (remove_plan i 1 (i + 1 + 1) 0)))
+          (cond (eqb (i + 1) (entry_count (brick_in s l))) (removal i 1 (i + 1 + 1) 0)
+          (cond (eqb (holder_of (working_log (brick_in s l)) (i + 1)) (i + 1)) (removal i 1 (i + 1) (log_time (working_log (brick_in s l)) (i + 1)))
+          (removal i 1 (i + 1 + 1) 0)))
           (removed (brick_in s l) i 1 (not (mark_at (brick_in s l) i)))
       go (yes a) b =
           rw (eq-eqb (i + 1) (entry_count (brick_in s l)) a)
@@ -161,7 +158,7 @@ module _ (s : Settings) (brick : ℕ) (l : List ℕ) (k : Known) (r : LogReady s
       go (no a) (yes b) =
           let up = below a in
           rw (ne_eqb (i + 1) (entry_count (brick_in s l)) a, eq-eqb (holder_of (working_log (brick_in s l)) (i + 1)) (i + 1) b)
-          (subst (λ (h : Bool). Removes (brick_in s l) k (remove_plan i 1 (i + 1) (log_time (working_log (brick_in s l)) (i + 1))) (removed (brick_in s l) i 1 (not h)))
+          (subst (λ (h : Bool). Removes (brick_in s l) k (removal i 1 (i + 1) (log_time (working_log (brick_in s l)) (i + 1))) (removed (brick_in s l) i 1 (not h)))
           (sym (above_held i up b)) (held_removes i up b))
       go (no a) (no b) =
           rw (ne_eqb (i + 1) (entry_count (brick_in s l)) a, ne_eqb (holder_of (working_log (brick_in s l)) (i + 1)) (i + 1) b)
@@ -174,15 +171,14 @@ module _ (s : Settings) (brick : ℕ) (l : List ℕ) (k : Known) (r : LogReady s
 
   -- a Drop
   pub drop_removes : (t : ℕ) (p : Plan) → p ≡ drop_plan (working_log (brick_in s l)) (entry_count (brick_in s l)) t
-      → Removes (brick_in s l) k p (dropped_from (brick_in s l) t)
-  unfolding drop_plan drop_in looked_in
-  drop_removes t p e = subst (λ (q : Plan). Removes (brick_in s l) k q (dropped_from (brick_in s l) t)) (sym e) (go (ℕ_discrete (entry_count (brick_in s l)) 1))
+      → Takes (brick_in s l) k p (dropped_from (brick_in s l) t)
+  unfolding drop_plan drop_in looked_in Takes
+  drop_removes t p e = subst (λ (q : Plan). Takes (brick_in s l) k q (dropped_from (brick_in s l) t)) (sym e) (go (ℕ_discrete (entry_count (brick_in s l)) 1))
     where
       found : (entry_count (brick_in s l) ≡ 1 → ⊥) → (n : ℕ) → time_in (working_log (brick_in s l)) t (entry_count (brick_in s l)) ≡ n
-          → Removes (brick_in s l) k (drop_in (working_log (brick_in s l)) (entry_count (brick_in s l)) (looked_in n)) (dropped_from (brick_in s l) t)
+          → Takes (brick_in s l) k (drop_in (working_log (brick_in s l)) (entry_count (brick_in s l)) (looked_in n)) (dropped_from (brick_in s l) t)
       found m zero q =
-          removes_nothing (brick_in s l) k (dropped_from (brick_in s l) t)
-          (drop_absent (brick_in s l) t (λ j h z. eqb-false (log_time (working_log (brick_in s l)) j) t (last_takes_none _ _ q j h) (time j h ∙ z)))
+          drop_absent (brick_in s l) t (λ j h z. eqb-false (log_time (working_log (brick_in s l)) j) t (last_takes_none _ _ q j h) (time j h ∙ z))
       found m (suc i) q =
           let w = last_takes (λ (j : ℕ). eqb (log_time (working_log (brick_in s l)) j) t) (entry_count (brick_in s l)) i q in
           let at : time_at (brick_in s l) i ≡ t = sym (time i w.0) ∙ eqb-true (log_time (working_log (brick_in s l)) i) t w.1 in
@@ -190,10 +186,10 @@ module _ (s : Settings) (brick : ℕ) (l : List ℕ) (k : Known) (r : LogReady s
           (sym (drop_at_lem (brick_in s l) t i m (first_of t i w.0 at))) (one_removes i w.0)
 
       go : Dec (entry_count (brick_in s l) ≡ 1)
-          → Removes (brick_in s l) k
-          (cond (eqb (entry_count (brick_in s l)) 1) (plan_of 0 0)
+          → Takes (brick_in s l) k
+          (cond (eqb (entry_count (brick_in s l)) 1) Nothing
           (drop_in (working_log (brick_in s l)) (entry_count (brick_in s l)) (looked_in (time_in (working_log (brick_in s l)) t (entry_count (brick_in s l))))))
           (dropped_from (brick_in s l) t)
       go (yes a) =
-          rw (eq-eqb (entry_count (brick_in s l)) 1 a) (removes_nothing (brick_in s l) k (dropped_from (brick_in s l) t) (drop_only (brick_in s l) t a))
+          rw (eq-eqb (entry_count (brick_in s l)) 1 a) (drop_only (brick_in s l) t a)
       go (no a) = rw (ne_eqb (entry_count (brick_in s l)) 1 a) (found a (time_in (working_log (brick_in s l)) t (entry_count (brick_in s l))) refl)

@@ -43,11 +43,6 @@ each_not p k i l e = go (each p k) refl
     go true ea = sym (each_at p k i ea l) ∙ e
     go false ea = refl
 
-pub some_none : (p : ℕ → Bool) (k : ℕ) → ((i : ℕ) → i < k → p i ≡ false) → some p k ≡ false
-unfolding some
-some_none p zero h = refl
-some_none p (suc k) h = rw (some_none p k (λ i l. h i (omega arith)), h k (le_refl _))
-
 pub some_at : (p : ℕ → Bool) (k i : ℕ) → some p k ≡ false → i < k → p i ≡ false
 unfolding some
 some_at p zero i e h = absurd (not-suc-le-zero h)
@@ -57,13 +52,6 @@ some_at p (suc k) i e h = go (some p k) (p k) refl refl e (eq-or-lt_of_le (le_of
     go false b ea eb ab (inl q) ih = ap p q ∙ eb ∙ ab
     go false b ea eb ab (inr l) ih = ih ea l
     go true b ea eb ab w ih = let z : ◌≡◌ {A = ℕ} 0 1 = cc in absurd (omega arith)
-
-pub some_found : (p : ℕ → Bool) (k i : ℕ) → i < k → p i ≡ true → some p k ≡ true
-some_found p k i l e = go (some p k) refl
-  where
-    go : (a : Bool) → some p k ≡ a → a ≡ true
-    go false ea = sym (some_at p k i ea l) ∙ e
-    go true ea = refl
 
 -- a search that succeeds finds a number
 pub some_witness : (p : ℕ → Bool) (n : ℕ) → some p n ≡ true → (b : ℕ) × (b < n) × (p b ≡ true)

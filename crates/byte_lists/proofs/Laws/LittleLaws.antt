@@ -1,15 +1,15 @@
 -- Laws of `specs/Little`.
-use mathlib.Core.Path.{◌≡◌, refl, sym, ap, ap₂, ◌∙◌}
+use mathlib.Core.Path.{◌≡◌, refl, ap, ap₂, ◌∙◌}
 use mathlib.Core.Bool.{true}
-use mathlib.Core.List.{List, [], ◌∷◌, ◌++◌}
+use mathlib.Core.List.{List, [], ◌∷◌}
 use Prim.Native.Nat.{ℕ, zero, suc, ◌+◌, ◌*◌, ◌/◌, ◌%◌, ◌^◌, ◌≤◌, ◌<◌}
 use native.Mathlib.Omega.{arith}
 use native.Mathlib.Numerals.{add-one}
-use native.Mathlib.Nat.{mul_assoc}
-use lib.ListN.{length, take, drop, get_or, replicate, length-take, length-drop}
+use lib.ListN.{length, take, drop, get_or, replicate}
 use lib.Dec.{ltb}
+use Rattle.std.specs.Int.{from_le_bytes, w64}
 use borrow.Author.Tests.{ltb-true, lt-ltb}
-use lib.Seq.{drop-cons, take-add, drop-drop}
+use lib.Seq.{drop-cons}
 use Rattle.byte_lists.specs.Little.{byte_of, little, number, Bytes, are_bytes, limit}
 use Rattle.byte_lists.proofs.Laws.BoolLaws.{and_left, and_right}
 
@@ -53,39 +53,21 @@ number_2 l at low high h e f =
     rw (drop-cons l at 0 (omega arith), drop-cons l (suc at) 0 (omega arith), e, f, add-one)
     (omega arith)
 
-pub number_append : (a b : List ℕ) → number (a ++ b) ≡ number a + limit (length a) * number b
-unfolding number limit
-number_append [] b = omega arith
-number_append (x ∷ a) b =
-    let ih = number_append a b in
-    let m : 256 * limit (length a) * number b ≡ 256 * (limit (length a) * number b) = mul_assoc 256 (limit (length a)) (number b) in
-    omega arith
-
-half : (l : List ℕ) (at k low high : ℕ) → at + k + k ≤ length l
-    → low ≡ number (take k (drop at l)) → high ≡ number (take k (drop (at + k) l))
-    → low + limit k * high ≡ number (take (k + k) (drop at l))
-half l at k low high h e f =
-    let n : length (take k (drop at l)) ≡ k = simp (length-take, length-drop) (omega arith) in
-    let g = number_append (take k (drop at l)) (take k (drop k (drop at l))) in
-    let d = drop-drop k at l in
-    let t = take-add k k (drop at l) in
-    ap₂ (λ (x y : ℕ). x + limit k * y) e f
-    ∙ ap (λ (xs : List ℕ). number (take k (drop at l)) + limit k * number (take k xs)) (sym d)
-    ∙ ap (λ (x : ℕ). number (take k (drop at l)) + limit x * number (take k (drop k (drop at l)))) (sym n)
-    ∙ sym g
-    ∙ ap number (sym t)
-
-pub number_4 : (l : List ℕ) (at low high : ℕ) → at + 4 ≤ length l
-    → low ≡ number (take 2 (drop at l)) → high ≡ number (take 2 (drop (at + 2) l))
-    → low + 65536 * high ≡ number (take 4 (drop at l))
-unfolding limit
-number_4 l at low high h e f = half l at 2 low high (omega arith) e f
-
-pub number_8 : (l : List ℕ) (at low high : ℕ) → at + 8 ≤ length l
-    → low ≡ number (take 4 (drop at l)) → high ≡ number (take 4 (drop (at + 4) l))
-    → low + 4294967296 * high ≡ number (take 8 (drop at l))
-unfolding limit
-number_8 l at low high h e f = half l at 4 low high (omega arith) e f
+-- as the library reads eight bytes
+pub number_8 : (at : ℕ) (l : List ℕ) → at + 8 ≤ length l → number (take 8 (drop at l)) ≡ from_le_bytes w64 (take 8 (drop at l))
+unfolding number
+number_8 at l h =
+    rw (
+      drop-cons l at 0 (omega arith),
+      drop-cons l (suc at) 0 (omega arith),
+      drop-cons l (suc (suc at)) 0 (omega arith),
+      drop-cons l (suc (suc (suc at))) 0 (omega arith),
+      drop-cons l (suc (suc (suc (suc at)))) 0 (omega arith),
+      drop-cons l (suc (suc (suc (suc (suc at))))) 0 (omega arith),
+      drop-cons l (suc (suc (suc (suc (suc (suc at)))))) 0 (omega arith),
+      drop-cons l (suc (suc (suc (suc (suc (suc (suc at))))))) 0 (omega arith),
+    )
+    (omega arith)
 
 -- the bytes of a number as a writer stores them
 pub little_2 : (n b0 b1 : ℕ) → b0 ≡ byte_of n → b1 ≡ byte_of (n / 256) → b0 ∷ b1 ∷ [] ≡ little 2 n

@@ -1,13 +1,12 @@
 -- Bytes put into a list: it keeps its length, they stand there, and what stands beside them is as it was.
 use mathlib.Core.Path.{◌≡◌, refl, sym, ap, ◌∙◌}
 use mathlib.Core.List.{List, [], ◌∷◌, ◌++◌, append_assoc, append-nil}
-use Prim.Native.Nat.{ℕ, zero, suc, ◌+◌, ◌-◌, ◌≤◌, ◌<◌}
+use Prim.Native.Nat.{ℕ, zero, suc, ◌+◌, ◌-◌, ◌≤◌}
 use native.Mathlib.Omega.{arith}
-use lib.ListN.{length, take, drop, length-append, length-take, length-drop, get_or, set}
-use lib.Seq.{take_at, drop_at, drop-drop, take-nil, take-take, take-append-le, length-take-le, take-length, paste, paste-zero, paste-suc, length-paste, sets, sets-eq, drop-length}
+use lib.ListN.{length, take, drop, length-append, length-take, length-drop}
+use lib.Seq.{take_at, drop_at, drop-drop, take-nil, take-take, take-append-le, length-take-le, sets, sets-eq, drop-length}
 use borrow.Rule.Slice.PartMut.{put_mid, Post-is}
 use Rattle.byte_lists.specs.Lists.{put}
-use native.Mathlib.Numerals.{add-one}
 
 pub put_is : (at : ℕ) (x l : List ℕ) → put at x l ≡ take at l ++ (x ++ drop (at + length x) l)
 unfolding put
@@ -70,32 +69,6 @@ put_behind at b k x l h f =
         ∙ sym (drop-drop (length x) at (take at l ++ (x ++ drop (at + length x) l)))
         ∙ ap (drop (length x)) (drop_at (take at l) (x ++ drop (at + length x) l) at (length-take-le at l f))
         ∙ drop_at x (drop (at + length x) l) (length x) refl
-
--- a copy of the first i elements of s into d from a place on has left l
-pub record Pasted (d s : List ℕ) (at i : ℕ) (l : List ℕ) : Type 0 where
-  pub within : at + length s ≤ length d
-  pub so_far : i ≤ length s
-  pub left_by : l ≡ paste d at s i
-
-pub pasted_none : (d s : List ℕ) (at : ℕ) → at + length s ≤ length d → Pasted d s at 0 d
-pasted_none d s at h = record { within = h; so_far = omega arith; left_by = paste-zero d at s }
-
-pub pasted_more : (d s l : List ℕ) (at i : ℕ) → i < length s → Pasted d s at i l → Pasted d s at (i + 1) (set l (at + i) (get_or s i 0))
-pasted_more d s l at i h p =
-    record {
-      within = p.within;
-      so_far = omega arith;
-      left_by = rw (p.left_by, add-one i) (paste-suc d at s i 0 (omega (arith, p.within)) h);
-    }
-
-pub pasted_length : (d s l : List ℕ) (at i : ℕ) → Pasted d s at i l → length l ≡ length d
-pasted_length d s l at i p = ap length p.left_by ∙ length-paste d at s i (omega (arith, p.within, p.so_far)) p.so_far
-
-pub pasted_all : (d s l : List ℕ) (at i : ℕ) → length s ≤ i → Pasted d s at i l → l ≡ put at s d
-unfolding put
-pasted_all d s l at i h p =
-    let e : i ≡ length s = omega (arith, p.so_far) in
-    p.left_by ∙ rw (e, take-length s)
 
 -- stores one after the other, from the first place on, fill a buffer of their number
 pub stores : (values l : List ℕ) → length l ≡ length values → sets l 0 values ≡ values

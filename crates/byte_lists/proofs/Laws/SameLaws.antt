@@ -1,13 +1,23 @@
 -- The comparison of two lists of bytes.
-use mathlib.Core.Path.{◌≡◌, refl, ap₂, subst}
-use mathlib.Core.Bool.{Bool, true, false}
+use mathlib.Core.Path.{◌≡◌, refl, ap, ap₂, subst}
+use mathlib.Core.Bool.{Bool, true, false, ◌&&◌}
 use mathlib.Core.List.{List, [], ◌∷◌}
 use Prim.Native.Nat.{ℕ}
 use native.Mathlib.Omega.{arith}
 use lib.Dec.{eqb}
+use Rattle.std.specs.Cmp.Lexicographic.{pointwise}
+use Rattle.std.specs.Bool.{nat_eq}
 use borrow.Author.Tests.{eq-eqb, eqb-true}
 use Rattle.byte_lists.proofs.Laws.BoolLaws.{and_left, and_right}
 use Rattle.byte_lists.specs.Lists.{same}
+
+-- as the library compares two slices
+pub same_is_pointwise : (a b : List ℕ) → pointwise nat_eq a b ≡ same a b
+unfolding same
+same_is_pointwise [] [] = refl
+same_is_pointwise [] (y ∷ ys) = refl
+same_is_pointwise (x ∷ xs) [] = refl
+same_is_pointwise (x ∷ xs) (y ∷ ys) = ap (λ (t : Bool). eqb x y && t) (same_is_pointwise xs ys)
 
 pub same_true : (a b : List ℕ) → same a b ≡ true → a ≡ b
 unfolding same

@@ -38,9 +38,6 @@ pub record Filled (f : ℕ → ℕ) (old out : List ℕ) (k : ℕ) : Type 0 wher
   pub done : (i : ℕ) → i < k → get_or out i 0 ≡ f i
   pub rest : (i : ℕ) → k ≤ i → get_or out i 0 ≡ get_or old i 0
 
-pub filled_none : (f : ℕ → ℕ) (old : List ℕ) → Filled f old old 0
-filled_none f old = record { size = refl; done = λ i h. absurd (not-suc-le-zero h); rest = λ i h. refl }
-
 pub filled_more : (f : ℕ → ℕ) (old out : List ℕ) (k v : ℕ) → Filled f old out k → k < length old → v ≡ f k → Filled f old (set out k v) (k + 1)
 filled_more f old out k v h u e =
     record {
@@ -69,9 +66,6 @@ filled_keep f old out k h e =
 
 pub filled_all : (f : ℕ → ℕ) (old out : List ℕ) (k : ℕ) → Filled f old out k → length old ≤ k → out ≡ tabulate (length old) f
 filled_all f old out k h l = tabulate_by (length old) f out h.size (λ i u. h.done i (omega arith))
-
-pub filled_copy : (from old out : List ℕ) (k : ℕ) → Filled (λ (p : ℕ). get_or from p 0) old out k → length old ≤ k → length from ≡ length old → out ≡ from
-filled_copy from old out k h l e = ext_get_or 0 out from (h.size ∙ sym e) (λ i u. h.done i (let z = h.size in omega arith))
 
 -- blocks of one size in a row
 pub length_stacked : (k size : ℕ) (f : ℕ → List ℕ) → ((i : ℕ) → length (f i) ≡ size) → length (stacked k f) ≡ k * size

@@ -2,13 +2,13 @@
 use mathlib.Core.Path.{◌≡◌, refl, sym, ap, ap₂, subst, ◌∙◌}
 use mathlib.Core.Bool.{Bool, true, false, cond}
 use mathlib.Core.List.{List, []}
-use Prim.Native.Nat.{ℕ, ◌*◌, ◌≤◌}
+use Prim.Native.Nat.{ℕ, ◌*◌, ◌≤◌, ◌<◌}
 use native.Mathlib.Omega.{arith}
 use lib.Dec.{eqb}
 use Rattle.coord_apply.specs.Acts.{round_message, clear_message, clearing, drops_first, trims_first, sending_first, next_op, next_round, modifying, ending, finished_seen, named_bricks}
 use Rattle.coord_apply.specs.Acts.{givers_at, picked_at, recovered_stripe, storing, aborting, acted}
 use Rattle.coord_apply.specs.Answers.{Buffered, Went, went, no_message, ok_seen, read_seen, aborted_seen, cut_seen, letter_of, sent_count, sent_message, sent_blocks, answer_of}
-use Rattle.coord_apply.specs.declared.Answer.{Answer}
+use Rattle.coord_apply.specs.Answers.{Answer}
 use Rattle.coord_letters.specs.Letters.{no_letter, letter_s, letter_c, read_letter, abort_letter}
 use Rattle.coord_record.specs.Records.{is_reading, target_count, no_bricks}
 use Rattle.coord_record.specs.declared.Coordinator.{Coordinator}
@@ -22,19 +22,19 @@ use Rattle.coord_decide.specs.declared.Decision.{Decision}
 use Rattle.coord_decide.specs.declared.Decision.TheVariants.{Abort, Give, Look, Store, Modify, Recover, Finish}
 use Rattle.erasure.specs.Code.{coded_of}
 use Rattle.message.specs.Kinds.{order_read_kind, write_kind, modify_kind, trim_kind}
-use Rattle.message.specs.declared.Message.{Message}
 use Rattle.settings.specs.Ranges.{CodeRange}
 use Rattle.settings.specs.Count.{count}
-use lib.ListN.{length, take}
+use lib.ListN.{get_or, length, take}
+use Rattle.std.proofs.lemmas.List.{get_or-take}
 use Rattle.coord_tally.proofs.Laws.RowSets.{passing_long, passing_below, givers_cut, giver_below, givers_differ}
 use Rattle.settings.proofs.Laws.CountLaws.{count_at_most}
 use Rattle.coord_blocks.specs.Blocks.{stripe_from, agreeing, given_stripe, stored_stripe}
-use Rattle.coord_blocks.specs.Workers.{HandedOn, BlocksReady}
+use Rattle.coord_blocks.specs.Workers.{HandedOn}
 use Rattle.coord_blocks.proofs.Laws.BufferLaws.{in_place, first_decoded}
 use Rattle.coord_apply.proofs.Laws.FirstLaws.{drops_ahead, trims_ahead}
 use Rattle.coord_blocks.proofs.Laws.OneBlockLaws.{left_as_it_was}
 use Rattle.coord_apply.specs.Acts.{buffered}
-use Rattle.coord_apply.specs.Workers.{open_answer, ahead_answer, end_answer, finished_letter, DecisionReady, Acted}
+use Rattle.coord_apply.specs.Workers.{open_answer, ahead_answer, end_answer, finished_letter, Acted}
 
 -- a recovery stores, or, where blocks of the chosen time disagree, ends aborted
 module _ (n m size : ℕ) (h : Buffered) (time : ℕ) where
@@ -160,23 +160,6 @@ pub acted_at : (n m size : ℕ) (h : Buffered) (d d' : Decision) (coded : List �
     → d ≡ d' → Acted n m size h d' coded r stripe' coded' → Acted n m size h d coded r stripe' coded'
 acted_at n m size h d d' coded r stripe' coded' e a = subst (λ (x : Decision). Acted n m size h x coded r stripe' coded') (sym e) a
 
--- an end by what the callees gave
-pub end_by : (c : Coordinator) (what what' letter letter' sent : ℕ) (row row' : List ℕ) (message message' : Message) (r : Answer)
-    → r ≡ end_answer c what letter row sent message → what ≡ what' → letter ≡ letter' → row ≡ row' → message ≡ message'
-    → r ≡ end_answer c what' letter' row' sent message'
-end_by c what what' letter letter' sent row row' message message' r e ew el er em = e ∙ (λ i. end_answer c (ew i) (el i) (er i) sent (em i))
-
--- where a decision is carried out, blocks can be taken
-pub decision_blocks : (n m size : ℕ) (c : Coordinator) (blocks stripe : ℕ) → DecisionReady n m size c blocks stripe → BlocksReady n m size c.op blocks stripe
-decision_blocks n m size c blocks stripe p =
-    record {
-      range = p.range;
-      first-low = p.first-low;
-      block-low = p.block-low;
-      blocks-length = p.blocks-length;
-      stripe-length = p.stripe-length;
-    }
-
 -- all bricks that gave a time can be decoded from, by a row of them
 module _ (n m size time : ℕ) (held found row : List ℕ) (k : ℕ) (range : CodeRange n m size) (ek : k ≡ count (at_times held found time) n)
     (er : row ≡ picked held found time n n) where
@@ -190,17 +173,23 @@ module _ (n m size time : ℕ) (held found row : List ℕ) (k : ℕ) (range : Co
       ∙ first_decoded n m size (givers held found time n) blocks range.n-low range.size_low
       (let l = passing_long (at_times held found time) n in omega (arith, l, ek, enough)) e (passing_below (at_times held found time) n)
 
-  pub givers_decode : (blocks : List ℕ) → m ≤ k → length blocks ≡ n * size → HandedOn m size k row blocks
-  givers_decode blocks enough e =
+  pub givers_count : length (take k row) ≡ k
+  givers_count = ap length givers_by ∙ passing_long (at_times held found time) n ∙ sym ek
+
+  -- they are handed on
+  pub givers_handed : (blocks : List ℕ) → m ≤ k → length blocks ≡ n * size → HandedOn m size (length (take k row)) (take k row) blocks
+  givers_handed blocks enough e =
       let most = count_at_most (at_times held found time) n in
-      subst (λ (l : List ℕ). HandedOn m size k l blocks) (sym er)
+      let at : (i : ℕ) → i < k → get_or (take k row) i 0 ≡ get_or (picked held found time n n) i 0 =
+      λ i h. get_or-take k row i 0 h ∙ ap (λ (l : List ℕ). get_or l i 0) er in
+      subst (λ (j : ℕ). HandedOn m size j (take k row) blocks) (sym givers_count)
       (record {
         size_low = range.size_low;
         size-high = range.size-high;
         few = omega (arith, ek, most, range.n-high);
         enough = enough;
-        differ = λ i j u w q. givers_differ held found time n range.n-high i j (omega arith) (omega arith) q;
-        in_place = in_place n k size (picked held found time n n) blocks e (λ i h. giver_below held found time n range.n-high i (omega arith));
+        differ = λ i j u w q. givers_differ held found time n range.n-high i j (omega arith) (omega arith) (sym (at i u) ∙ q ∙ at j w);
+        in_place = in_place n k size (take k row) blocks e (λ i h. let b = giver_below held found time n range.n-high i (omega arith) in omega (arith, at i h));
       })
 
 -- a recovery is decided only with enough blocks

@@ -4,7 +4,7 @@ use mathlib.Core.List.{List}
 use Prim.Native.Nat.{ℕ}
 use Rattle.coord_apply.specs.Answers.{Buffered, Step, refused, went, answer_of, blocks_after, stripe_after, coded_after, Returned, returned, returned_by}
 use Rattle.coord_apply.specs.Acts.{buffered}
-use Rattle.coord_apply.specs.declared.Answer.{Answer}
+use Rattle.coord_apply.specs.Answers.{Answer}
 use Rattle.coord_record.specs.declared.Coordinator.{Coordinator}
 
 -- a coordinator with its buffers after a step

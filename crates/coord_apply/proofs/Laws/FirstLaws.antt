@@ -9,7 +9,7 @@ use borrow.Author.Tests.{eqb-true, eqb-false, leb-true, leb-false}
 use Rattle.coord_apply.specs.Acts.{clear_message, clearing, all_hold, drops_first, trims_first, sending_first, next_round}
 use Rattle.coord_apply.specs.Answers.{Buffered, Broadcast, Went, went, sent_count, sent_message, sent_blocks, answer_of}
 use Rattle.coord_apply.specs.Workers.{open_answer, preceded_answer, ahead_answer}
-use Rattle.coord_apply.specs.declared.Answer.{Answer}
+use Rattle.coord_apply.specs.Answers.{Answer}
 use Rattle.coord_record.specs.declared.Coordinator.{Coordinator}
 use Rattle.coord_record.specs.declared.Op.{Op}
 use Rattle.coord_record.specs.declared.Tally.{Tally}
@@ -124,3 +124,8 @@ module _ (n m : ℕ) (op : Op) (t : Tally) (time : ℕ) (a : Answer) where
 pub found_answered : (c : Coordinator) (first : List Broadcast) (named named' : List ℕ) (phase : ℕ) (a r : Answer) → r ≡ ahead_answer first a → a ≡ open_answer c phase 0 0 named
     → named ≡ named' → r ≡ ahead_answer first (open_answer c phase 0 0 named')
 found_answered c first named named' phase a r er ea en = er ∙ ap (ahead_answer first) (ea ∙ ap (open_answer c phase 0 0) en)
+
+-- the ways of what goes out ahead of a recovery round, and of a store
+pub ruleset drops = (drop_answered, plain_answered)
+
+pub ruleset trims = (trim_answered, zero_answered, few_answered)

@@ -1,29 +1,29 @@
 -- Blocks in their places: put, cut out, gathered.
 use mathlib.Core.Path.{◌≡◌, refl, sym, ap, subst, ◌∙◌}
-use mathlib.Core.Bool.{Bool, cond}
 use mathlib.Core.List.{List, ◌++◌}
 use Prim.Native.Nat.{ℕ, zero, suc, ◌+◌, ◌-◌, ◌*◌, ◌≤◌, ◌<◌}
 use native.Mathlib.Decide.{dec_lt}
-use native.Mathlib.Nat.{suc-mul, mul-le-mul_right, le_refl}
+use native.Mathlib.Nat.{zero-mul, suc-mul, mul-le-mul_right, le_refl}
+use native.Mathlib.Numerals.{add-one}
 use lib.Seq.{take_at, take_all, take-append-le, take-take, length-take-le, get_or-take}
-use Rattle.erasure.specs.Code.{decoded_of, agree, blocks_of, with_block}
+use Rattle.erasure.specs.Code.{decoded_of, blocks_of, with_block}
 use native.Mathlib.Omega.{arith}
 use lib.ListN.{length, get_or, take, drop, get_or-eq_default}
 use borrow.Rule.Slice.PartMut.{put_mid}
 use Rattle.byte_lists.specs.Lists.{put, stacked}
 use Rattle.byte_lists.proofs.Laws.PutLaws.{put_mid_lem}
+use Rattle.byte_lists.proofs.Laws.StackLaws.{Stacked, stacked_none, stacked_more, stacked_all, part_length}
 use Rattle.byte_lists.proofs.Laws.TabulateLaws.{length_stacked}
 use Rattle.erasure.proofs.Laws.BlockOfLaws.{block_length}
 use Rattle.erasure.proofs.Laws.OnePolynomialLaws.{front_decoded}
 use Rattle.interpolate.specs.Values.{blocks_at}
 use Rattle.erasure.specs.Code.{block_of}
-use Rattle.coord_blocks.specs.Blocks.{stripe_from, agreeing}
-use Rattle.coord_blocks.specs.Workers.{InPlace, HandedOn}
-use Rattle.erasure.specs.Workers.{Decodes}
+use Rattle.coord_blocks.specs.Blocks.{stripe_from}
+use Rattle.coord_blocks.specs.Workers.{InPlace}
 use Rattle.coord_tally.specs.Counting.{target_row}
 use Rattle.coord_tally.proofs.Laws.RowSets.{target_set, target_below}
 use Rattle.interpolate.specs.Values.{PointSet}
-use Rattle.settings.specs.Ranges.{CodeRange, max_bricks, max_size}
+use Rattle.settings.specs.Ranges.{CodeRange, max_bricks}
 
 -- a part of the blocks replaced
 pub place_is : (size b at : ℕ) (block blocks ys : List ℕ) → length block ≡ size → at ≡ b * size → ys ≡ block
@@ -33,55 +33,53 @@ place_is size b at block blocks ys n e f =
     ap (put_mid at (at + size - at) blocks) f ∙ put_mid_lem at (at + size) blocks block (omega arith) (omega arith)
     ∙ ap (λ (k : ℕ). put k block blocks) e
 
--- a brick's block, as the code cuts it out
-pub block_here : (m size i b : ℕ) (bricks blocks : List ℕ) → InPlace m size bricks blocks → i < m → b ≡ get_or bricks i 0 → b * size + size ≤ length blocks
-block_here m size i b bricks blocks p l e = let w = p.within i l in let q = ap (λ (k : ℕ). k * size) e in omega arith
-
-pub block_cut : (k size i b : ℕ) (bricks blocks : List ℕ) → i < k → b ≡ get_or bricks i 0
-    → take (b * size + size - b * size) (drop (b * size) blocks) ≡ block_of size blocks (get_or (take k bricks) i 0)
+-- block b, as the code cuts it out
+pub block_cut : (size b : ℕ) (blocks : List ℕ) → take (b * size + size - b * size) (drop (b * size) blocks) ≡ block_of size blocks b
 unfolding block_of
-block_cut k size i b bricks blocks h e =
-    ap (λ (k : ℕ). take k (drop (b * size) blocks)) (let s : b * size + size - b * size ≡ size = omega arith in s)
-    ∙ ap (λ (k : ℕ). take size (drop (k * size) blocks)) (e ∙ sym (get_or-take k bricks i 0 h))
+block_cut size b blocks = ap (λ (k : ℕ). take k (drop (b * size) blocks)) (let s : b * size + size - b * size ≡ size = omega arith in s)
 
--- the next block is within the output
-pub next_within : (m size i at : ℕ) (out : List ℕ) → at ≡ i * size → i < m → length out ≡ m * size → at + size ≤ length out
-next_within m size i at out e l s = let h = mul-le-mul_right size l in let q = suc-mul i size in omega arith
+pub cut_length : (size b : ℕ) (blocks : List ℕ) → b * size + size ≤ length blocks
+    → length (take (b * size + size - b * size) (drop (b * size) blocks)) ≡ size
+cut_length size b blocks h = part_length size blocks (b * size) h
+
+-- block i of k is within the output
+pub block_within : (k size i : ℕ) → i < k → i * size + size ≤ k * size
+block_within k size i h = let q = mul-le-mul_right size h in let s = suc-mul i size in omega arith
+
+-- What is gathered after i bricks: their blocks one after the other.
+pub record Gathered (size : ℕ) (bricks blocks old out : List ℕ) (i : ℕ) : Type 0 where
+  pub rows : Stacked (λ (j : ℕ). block_of size blocks (get_or bricks j 0)) size old out i (i * size)
+
+pub gathered_none : (size : ℕ) (bricks blocks old : List ℕ) → Gathered size bricks blocks old old 0
+gathered_none size bricks blocks old =
+    let f : ℕ → List ℕ = λ j. block_of size blocks (get_or bricks j 0) in
+    record { rows = subst (Stacked f size old old 0) (sym (zero-mul size)) (stacked_none f size old) }
+
+pub gathered_more : (size i : ℕ) (bricks blocks old out ys out' : List ℕ) → Gathered size bricks blocks old out i → i < length bricks
+    → length old ≡ length bricks * size → length ys ≡ size → ys ≡ block_of size blocks (get_or bricks i 0) → out' ≡ with_block size out i ys
+    → Gathered size bricks blocks old out' (i + 1)
+gathered_more size i bricks blocks old out ys out' g h e l ey eo =
+    let f : ℕ → List ℕ = λ j. block_of size blocks (get_or bricks j 0) in
+    let w = block_within (length bricks) size i h in
+    let k = g.rows.size-kept in
+    let m : Stacked f size old (put_mid (i * size) (i * size + size - i * size) out ys) (i + 1) (i * size + size) =
+    stacked_more f size old out ys i (i * size) g.rows (omega (arith, w, k, e)) l ey in
+    let n : i * size + size ≡ (i + 1) * size = let q = suc-mul i size in let r = ap (λ (z : ℕ). z * size) (add-one i) in omega (arith, q, r) in
+    let here = place_is size i (i * size) ys out ys l refl refl ∙ sym eo in
+    record {
+      rows = subst (Stacked f size old out' (i + 1)) n (subst (λ (o : List ℕ). Stacked f size old o (i + 1) (i * size + size)) here m);
+    }
+
+pub gathered_all : (size i : ℕ) (bricks blocks old out : List ℕ) → Gathered size bricks blocks old out i → i ≡ length bricks
+    → length old ≡ length bricks * size → out ≡ blocks_of size blocks bricks
+unfolding blocks_of
+gathered_all size i bricks blocks old out g h e = stacked_all _ size old out i (i * size) (length bricks) g.rows (omega (arith, h)) (omega (arith, h)) e
+
+pub ruleset gathering = (gathered_none, gathered_more, gathered_all)
 
 -- the blocks gathered at the front of a longer buffer
 pub front_is : (k : ℕ) (ys rest : List ℕ) → length ys ≡ k → take k (ys ++ rest) ≡ ys
 front_is k ys rest e = take_at ys rest k e
-
-pub front_long : (k : ℕ) (ys rest : List ℕ) → length ys ≡ k → length (take k (ys ++ rest)) ≡ k
-front_long k ys rest e = ap length (front_is k ys rest e) ∙ e
-
--- the stripe of what was gathered there, and whether it agrees
-module _ (m size k : ℕ) (bricks blocks row rest : List ℕ) (e : length row ≡ k * size) (g : row ≡ blocks_of size blocks (take k bricks)) where
-  handed : take (k * size) (row ++ rest) ≡ blocks_of size blocks (take k bricks)
-  handed = front_is (k * size) row rest e ∙ g
-
-  pub stripe_from_is : (s : List ℕ) → s ≡ decoded_of m size (take k bricks) (take (k * size) (row ++ rest)) → s ≡ stripe_from m size (take k bricks) blocks
-  unfolding stripe_from
-  stripe_from_is s q = q ∙ ap (decoded_of m size (take k bricks)) handed
-
-  pub agreeing_is : (b : Bool) → b ≡ agree m size (take k bricks) (take (k * size) (row ++ rest)) → b ≡ agreeing m size (take k bricks) blocks
-  unfolding agreeing
-  agreeing_is b q = q ∙ ap (agree m size (take k bricks)) handed
-
-  pub checked_is : (b : Bool) (s old : List ℕ) → s ≡ cond b (decoded_of m size (take k bricks) (take (k * size) (row ++ rest))) old
-      → s ≡ cond b (stripe_from m size (take k bricks) blocks) old
-  unfolding stripe_from
-  checked_is b s old q = q ∙ ap (λ (l : List ℕ). cond b (decoded_of m size (take k bricks) l) old) handed
-
--- the first k bricks of a row, by number
-pub first_bricks : (k size : ℕ) (bricks blocks out : List ℕ) → k ≤ length bricks → out ≡ stacked k (λ (i : ℕ). block_of size blocks (get_or (take k bricks) i 0))
-    → out ≡ blocks_of size blocks (take k bricks)
-unfolding blocks_of
-first_bricks k size bricks blocks out h e =
-    e ∙ ap (λ (j : ℕ). stacked j (λ (i : ℕ). block_of size blocks (get_or (take k bricks) i 0))) (sym (length-take-le k bricks h))
-
-pub room_enough : (m size : ℕ) → m ≤ max_bricks → size ≤ max_size → m * size ≤ max_bricks * max_size
-room_enough m size a b = let h = mul-le-mul_right size a in omega (arith, h)
 
 -- bricks below n have their blocks among n
 pub in_place : (n m size : ℕ) (bricks blocks : List ℕ) → length blocks ≡ n * size → ((i : ℕ) → i < m → get_or bricks i 0 < n) → InPlace m size bricks blocks
@@ -144,24 +142,19 @@ first_decoded n m size bricks blocks some pos enough e below =
         stacked_ext m f (λ (i : ℕ). block_of size blocks (get_or (take m bricks) i 0)) (λ i h. ap (block_of size blocks) (sym (get_or-take m bricks i 0 h)))
         ∙ ap (λ (j : ℕ). stacked j (λ (i : ℕ). block_of size blocks (get_or (take m bricks) i 0))) (sym long)
 
--- the targets can be decoded from
-pub target_decodes : (n m size first : ℕ) (row blocks : List ℕ) → CodeRange n m size → first < n → length blocks ≡ n * size → row ≡ target_row n m first
-    → PointSet (take m row) × InPlace m size row blocks
-target_decodes n m size first row blocks r f e er =
-    subst (λ (l : List ℕ). PointSet (take m l) × InPlace m size l blocks) (sym er)
-    (target_set n m first r.n-high r.m-high f, in_place n m size (target_row n m first) blocks e (target_below n m first r.n-high r.m-high f))
+-- the blocks of the first k bricks of a row
+pub front_in_place : (k size : ℕ) (row blocks : List ℕ) → InPlace k size row blocks → InPlace k size (take k row) blocks
+front_in_place k size row blocks p =
+    record { within = λ i h. subst (λ (b : ℕ). b * size + size ≤ length blocks) (sym (get_or-take k row i 0 h)) (p.within i h) }
 
--- the first k bricks of a row handed on
-pub handed_decodes : (m size k b s : ℕ) (row blocks : List ℕ) → HandedOn m size k row blocks → k ≤ length row → b ≡ k * size → s ≡ m * size → Decodes m size (take k row) b s
-handed_decodes m size k b s row blocks h fit eb es =
-    let l = length-take-le k row fit in
-    record {
-      m-high = omega (arith, h.few, h.enough);
-      size_low = h.size_low;
-      size-high = h.size-high;
-      enough = omega (arith, l, h.enough);
-      differ = λ i j u w q.
-          h.differ i j (omega arith) (omega arith) (sym (get_or-take k row i 0 (omega arith)) ∙ q ∙ get_or-take k row j 0 (omega arith));
-      blocks-length = eb ∙ ap (λ (j : ℕ). j * size) (sym l);
-      stripe-length = es;
-    }
+-- the targets can be decoded from
+pub target_points : (n m first : ℕ) (row : List ℕ) → row ≡ target_row n m first → n ≤ max_bricks → m ≤ n → first < n → PointSet (take m row)
+target_points n m first row e a b f = subst (λ (l : List ℕ). PointSet (take m l)) (sym e) (target_set n m first a b f)
+
+pub target_in_place : (n m size first : ℕ) (row blocks : List ℕ) → CodeRange n m size → first < n → length blocks ≡ n * size → row ≡ target_row n m first
+    → InPlace m size (take m row) blocks
+target_in_place n m size first row blocks r f e er =
+    subst (λ (l : List ℕ). InPlace m size (take m l) blocks) (sym er)
+    (front_in_place m size (target_row n m first) blocks (in_place n m size (target_row n m first) blocks e (target_below n m first r.n-high r.m-high f)))
+
+pub ruleset targets = (target_points, target_in_place, block_within)

@@ -49,8 +49,8 @@ use Rattle.settings.proofs.Laws.TimeLaws.{gave}
 use Rattle.settings.specs.Refusal.{first_refusal}
 use Rattle.settings.specs.Times.{max_count, no_upper_end, time_of, valid_time, next_count, draw_of, last_coordinator}
 use Rattle.settings.specs.declared.Clock.{Clock}
-use Rattle.settings.specs.declared.Draw.{Draw}
-use Rattle.settings.specs.declared.Draw.TheVariants.{Drawn, Refused}
+use Rattle.settings.specs.Times.{Draw}
+use Rattle.settings.specs.Times.{Drawn, Refused}
 use Rattle.settings.proofs.Laws.RefusalLaws.{passed_first, passed_rest}
 use Rattle.coord_laws.specs.Soundness.{Good, Full}
 use Rattle.message.specs.Kinds.{read_kind, order_kind, order_read_kind, order_block_kind, write_kind, modify_kind, block_targets}

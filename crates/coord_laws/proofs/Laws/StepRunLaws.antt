@@ -18,7 +18,7 @@ use Rattle.message.specs.declared.Reply.{Reply}
 use Rattle.settings.proofs.Laws.TimeLaws.{gave}
 use Rattle.settings.specs.Times.{time_of, next_count, draw_of}
 use Rattle.settings.specs.declared.Clock.{Clock}
-use Rattle.settings.specs.declared.Draw.TheVariants.{Drawn}
+use Rattle.settings.specs.Times.{Drawn}
 use Rattle.message.specs.Kinds.{read_kind, order_kind, first_round}
 
 -- A reply that is not refused: the checks passed; it is of the running operation, its stripe and round, from a brick not counted before.

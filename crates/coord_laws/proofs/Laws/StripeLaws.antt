@@ -39,7 +39,7 @@ use Rattle.settings.specs.Ranges.{code_refusal, stripe_count_refusal, quorum}
 use Rattle.settings.specs.Refusal.{first_refusal, refuse_unless, busy}
 use Rattle.settings.specs.Times.{next_count, draw_refusal, draw_of}
 use Rattle.settings.specs.declared.Clock.{Clock}
-use Rattle.settings.specs.declared.Draw.TheVariants.{Drawn}
+use Rattle.settings.specs.Times.{Drawn}
 
 -- Clock and settings stay; what still runs is on the stripe that it was on, and all that is sent and shown is of that stripe.
 pub record KeepsStripe (h : Buffered) (w : Went) : Type 0 where

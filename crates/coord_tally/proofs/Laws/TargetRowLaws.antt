@@ -1,19 +1,16 @@
 -- Rows of bricks, one more at a time, and that they hold different bricks.
 use mathlib.Core.Path.{◌≡◌, refl, sym, ap, ◌∙◌}
-use mathlib.Core.Bool.{Bool, true, false, cond}
+use mathlib.Core.Bool.{Bool, true, false}
 use mathlib.Core.List.{List, [], ◌∷◌, ◌++◌, append-nil}
-use Prim.Native.Nat.{ℕ, zero, suc, ◌+◌, ◌-◌, ◌≤◌, ◌<◌}
+use Prim.Native.Nat.{ℕ, zero, suc, ◌+◌, ◌≤◌, ◌<◌}
 use native.Mathlib.Decide.{ℕ_discrete, dec_lt}
 use native.Mathlib.Numerals.{add-one}
 use native.Mathlib.Omega.{arith}
-use lib.Dec.{ltb}
-use lib.ListN.{length, get_or, take, set, replicate, length-append, length-take, length-set, get_or-replicate, get_or-append, get_or-eq_default}
+use lib.ListN.{length, get_or, take, set, replicate, length-append, length-take, length-set, get_or-append, get_or-eq_default}
 use lib.Seq.{take_all, take-append-le, get_or_at, get_or-set_same, get_or-set_other}
-use borrow.Author.Tests.{lt-ltb, le-ltb, ltb-true, ltb-false}
-use Rattle.coord_record.specs.CountedRules.{is_target}
-use Rattle.coord_tally.specs.Counting.{passing, in_row, picked, at_times, upward, target_row, target_flag, target_flags}
+use Rattle.coord_tally.specs.Counting.{passing, in_row, picked, at_times}
 use Rattle.byte_lists.specs.Lists.{tabulate}
-use Rattle.byte_lists.proofs.Laws.TabulateLaws.{Filled, tabulate_by, length_tabulate, get_d_tabulate}
+use Rattle.byte_lists.proofs.Laws.TabulateLaws.{tabulate_by, length_tabulate, get_d_tabulate}
 use Rattle.settings.specs.Ranges.{max_bricks}
 
 -- the row so far: the first m of those that pass below b, and how many they are
@@ -93,40 +90,6 @@ pub picks_all : (flags found : List ℕ) (time n m b : ℕ) (row : List ℕ) (k 
 unfolding picked
 picks_all flags found time n m b row k h u v =
     h.row_is ∙ ap (λ (j : ℕ). in_row (take m (passing (at_times flags found time) j))) (let e : b ≡ n = omega arith in e)
-
--- the targets
-pub up_within : (n first i : ℕ) → first + i < n → first + i ≡ upward n first i
-unfolding upward
-up_within n first i h = rw (lt-ltb (first + i) n h)
-
-pub up_wrapped : (n first i : ℕ) → n ≤ first + i → first + i - n ≡ upward n first i
-unfolding upward
-up_wrapped n first i h = rw (le-ltb (first + i) n h)
-
-pub targets_all : (n m first i : ℕ) (row : List ℕ) → Filled (upward n first) (replicate max_bricks 0) row i → m ≤ i → i ≤ m → m ≤ max_bricks → row ≡ target_row n m first
-unfolding target_row
-targets_all n m first i row f u v w =
-    tabulate_by max_bricks (λ (i : ℕ). cond (ltb i m) (upward n first i) 0) row f.size (λ j l. go j l (ltb j m) refl)
-  where
-    go : (j : ℕ) → j < max_bricks → (t : Bool) → ltb j m ≡ t → get_or row j 0 ≡ cond t (upward n first j) 0
-    go j l true e = f.done j (let q = ltb-true j m e in omega arith)
-    go j l false e = f.rest j (let q = ltb-false j m e in omega arith) ∙ get_or-replicate max_bricks j 0 0 l
-
-pub flag_target : (n m first b : ℕ) (t : Bool) → b < n → t ≡ is_target n m first b → t ≡ true → 1 ≡ target_flag n m first b
-unfolding target_flag
-flag_target n m first b t h e z = rw (lt-ltb b n h, ← e, z)
-
-pub flag_none : (n m first b : ℕ) (t : Bool) → b < n → t ≡ is_target n m first b → t ≡ false → 0 ≡ target_flag n m first b
-unfolding target_flag
-flag_none n m first b t h e z = rw (lt-ltb b n h, ← e, z)
-
-pub flag_beyond : (n m first b : ℕ) → n ≤ b → 0 ≡ target_flag n m first b
-unfolding target_flag
-flag_beyond n m first b h = rw (le-ltb b n h)
-
-pub flags_all : (n m first b : ℕ) (flags : List ℕ) → Filled (target_flag n m first) (replicate max_bricks 0) flags b → max_bricks ≤ b → flags ≡ target_flags n m first
-unfolding target_flags
-flags_all n m first b flags f l = tabulate_by max_bricks (target_flag n m first) flags f.size (λ i u. f.done i (omega arith))
 
 pub picks_same : (p : ℕ → Bool) (m b : ℕ) (row row' : List ℕ) (k k' : ℕ) → Picks p m b row k → row' ≡ row → k' ≡ k → Picks p m b row' k'
 picks_same p m b row row' k k' h e f = record { row_is = e ∙ h.row_is; many = f ∙ h.many }

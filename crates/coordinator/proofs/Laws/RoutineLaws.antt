@@ -1,8 +1,9 @@
 -- Laws of `specs/Routines`: what passing the checks says, and the ways through each routine.
+use Rattle.std.specs.Prelude.{Result, Ok, Err, IsErrAnd}
 use mathlib.Core.Path.{◌≡◌, refl, sym, ap, subst, ◌∙◌}
 use mathlib.Core.Bool.{Bool, true, false, cond, not, ◌&&◌, ◌||◌}
 use mathlib.Core.List.{List, [], ◌++◌}
-use Prim.Native.Nat.{ℕ, ◌+◌, ◌*◌, ◌≤◌, ◌<◌}
+use Prim.Native.Nat.{ℕ, zero, suc, ◌+◌, ◌*◌, ◌≤◌, ◌<◌}
 use native.Mathlib.Nat.{mul-le-mul_right, suc-mul}
 use native.Mathlib.Omega.{arith}
 use lib.Dec.{eqb, leb, ltb}
@@ -15,19 +16,19 @@ use Rattle.coord_apply.specs.Acts.{with_tally, counting, waiting_or, acted, endi
 use Rattle.coord_apply.specs.Answers.{Buffered, Went, Step, refused, went, after_checks, nothing_seen, no_message, cut_seen, sent_count, sent_message, sent_blocks, answer_of, blocks_after, letter_of}
 use Rattle.coord_letters.specs.Letters.{letter_c}
 use Rattle.coord_apply.specs.Answers.{stripe_after, coded_after, Returned, returned, returned_by}
-use Rattle.coord_apply.specs.declared.Answer.{Answer}
+use Rattle.coord_apply.specs.Answers.{Answer, answered, answer_in}
+use Rattle.coord_apply.specs.declared.Answer as Code
 use Rattle.coord_record.specs.Records.{idle_kind, reading_kind, writing_kind, reading_block_kind, writing_block_kind, on_block, no_bricks}
 use Rattle.coord_record.specs.SoundParts.{SoundParts}
 use Rattle.coord_record.proofs.Laws.SoundPartLaws.{sound_parts, round_high}
 use Rattle.coord_record.specs.declared.Coordinator.{Coordinator}
-use Rattle.coord_record.specs.declared.Geometry.{Geometry}
 use Rattle.coord_record.specs.declared.Op.{Op}
 use Rattle.coord_record.specs.declared.Tally.{Tally}
 use Rattle.coord_tally.specs.Counting.{target_flags}
 use Rattle.coord_decide.specs.Deciding.{answers, tallied, decided}
 use Rattle.coord_decide.specs.declared.Decision.{Decision}
 use Rattle.coord_decide.specs.declared.Decision.TheVariants.{Abort, Give, Look, Store, Modify, Recover, Finish}
-use Rattle.coord_refusals.proofs.Laws.RefusedLaws.{record_passes, stripe_passes, block_passes, lengths_fit, start_stops, start_late, start_busy, start_passes}
+use Rattle.coord_refusals.proofs.Laws.RefusedLaws.{number_positive, none_left, record_passes, stripe_passes, block_passes, lengths_fit, start_stops, start_goes, start_late, start_busy, start_passes}
 use Rattle.coord_refusals.specs.Checks.{stripe_checks, write_checks, read_checks, block_checks, write_block_checks, read_block_checks, start_checks, lengths_right, stray_checks, take_refusal}
 use Rattle.coord_refusals.specs.Checks.{write_refusal, read_refusal, write_block_refusal, read_block_refusal, crash_refusal}
 use Rattle.coordinator.specs.Routines.{drawn_then, write_step, read_step, write_block_step, read_block_step, take_step, crashed, crash_step}
@@ -41,14 +42,16 @@ use Rattle.settings.specs.Ranges.{CodeRange, max_bricks, max_size}
 use Rattle.settings.proofs.Laws.RangeLaws.{code_passed}
 use Rattle.byte_lists.proofs.Laws.BoolLaws.{and_left, and_right}
 use Rattle.settings.specs.Ranges.{code_refusal, stripe_count_refusal, quorum}
-use Rattle.settings.specs.Refusal.{passed, first_refusal, refuse_unless, bad_length, bad_number, busy, stray_reply}
+use Rattle.settings.specs.declared.Refusal.{Refusal}
+use Rattle.settings.specs.declared.Refusal.TheVariants.{Busy}
+use Rattle.settings.specs.Refusal.{passed, number_of_refusal, first_refusal, refuse_unless, bad_length, bad_number, busy, stray_reply}
 use Rattle.settings.specs.Times.{time_of, next_count, advanced, draw_refusal, draw_of, number_of}
 use Rattle.settings.specs.declared.Clock.{Clock}
-use Rattle.settings.specs.declared.Draw.{Draw}
-use Rattle.settings.specs.declared.Draw.TheVariants.{Drawn, Refused}
+use Rattle.settings.specs.Times.{Draw}
+use Rattle.settings.specs.Times.{Drawn, Refused}
 use Rattle.settings.proofs.Laws.TimeLaws.{draw_number}
 use Rattle.settings.proofs.Laws.RefusalLaws.{passed_first, passed_rest, tested}
-use Rattle.coordinator.specs.Workers.{kept_answer, start_answer, kept_blocks, KeepsReply}
+use Rattle.coordinator.specs.Workers.{kept_answer, start_answer, started, kept_blocks, KeepsReply}
 
 pub checked_stop : (k bad : ℕ) (s : Step) → bad ≡ k → (bad ≡ 0 → ⊥) → after_checks k s ≡ refused bad
 unfolding after_checks
@@ -57,6 +60,15 @@ checked_stop k bad s e h = rw (← e, lt-leb bad 0 (omega arith))
 pub checked_pass : (k bad : ℕ) (s : Step) → bad ≡ k → bad ≡ 0 → after_checks k s ≡ s
 unfolding after_checks
 checked_pass k bad s e z = rw (← e, z)
+
+-- what `?` passes on
+pub passed_on : (x : Result Code.Answer Refusal) (r : Refusal) → IsErrAnd x (λ (f : Refusal). f ≡ r) → x ≡ Err r
+passed_on (Ok a) r h = absurd h
+passed_on (Err f) r h = ap (λ (g : Refusal). Err g) h
+
+-- a refusal's number is not that of none
+nonzero : (r : Refusal) → number_of_refusal r ≡ 0 → ⊥
+nonzero r z = let p = number_positive r in omega arith
 
 -- what a reply that is not refused satisfies
 pub record Takes (n m size stripes : ℕ) (c : Coordinator) (r : Reply) (block blocks stripe coded : ℕ) : Type 0 where
@@ -125,15 +137,6 @@ keeps n m size stripes c r block blocks stripe coded bad e z =
     let t = take_passed n m size stripes c r block blocks stripe coded bad e z in
     record { block-length = t.block-length; within = place_fits n m size stripes c r block blocks stripe coded t }
 
-pub kept_held : (size : ℕ) (r : Reply) (block blocks blocks' : List ℕ) → r.held ≡ true → blocks' ≡ with_block size blocks r.brick block
-    → blocks' ≡ kept_blocks size r block blocks
-unfolding kept_blocks
-kept_held size r block blocks blocks' h e = rw h e
-
-pub kept_none : (size : ℕ) (r : Reply) (block blocks : List ℕ) → r.held ≡ false → blocks ≡ kept_blocks size r block blocks
-unfolding kept_blocks
-kept_none size r block blocks h = rw h
-
 -- What a reply leads to: the answer and the three buffers.
 module _ (n m size stripes : ℕ) (c : Coordinator) (r : Reply) (block blocks stripe coded : List ℕ) where
   abbrev step_here : Step
@@ -142,12 +145,12 @@ module _ (n m size stripes : ℕ) (c : Coordinator) (r : Reply) (block blocks st
   abbrev pub Took : Answer → List ℕ → List ℕ → List ℕ → Type 0
   Took a blocks' stripe' coded' = returned a blocks' stripe' coded' ≡ take_call n m size stripes c blocks stripe coded r block
 
-  pub took_refused : (bad : ℕ) (a : Answer) → bad ≡ take_refusal n m size stripes c r (length block) (length blocks) (length stripe) (length coded) → (bad ≡ 0 → ⊥)
-      → a ≡ answer_of c (refused bad) → Took a blocks stripe coded
-  unfolding take_step buffered returned_by blocks_after stripe_after coded_after
-  took_refused bad a e h q =
-      let s : step_here ≡ refused bad = checked_stop _ bad _ e h in
-      ap (λ (x : Answer). returned x blocks stripe coded) q ∙ ap (returned_by (buffered c blocks stripe) coded) (sym s)
+  pub took_refused : (e : Refusal) → number_of_refusal e ≡ take_refusal n m size stripes c r (length block) (length blocks) (length stripe) (length coded)
+      → Took (answer_in c (Err e)) blocks stripe coded
+  unfolding take_step buffered returned_by blocks_after stripe_after coded_after answer_of
+  took_refused e q =
+      let s : step_here ≡ refused (number_of_refusal e) = checked_stop _ _ _ q (nonzero e) in
+      ap (returned_by (buffered c blocks stripe) coded) (sym s)
 
   took_went : (w : Went) (a : Answer) (blocks' stripe' coded' : List ℕ) → step_here ≡ went w → a ≡ answer_of c (went w) → blocks' ≡ w.next.blocks
       → stripe' ≡ w.next.stripe → coded' ≡ sent_blocks w.sent coded → Took a blocks' stripe' coded'
@@ -179,7 +182,6 @@ module _ (n m size stripes : ℕ) (c : Coordinator) (r : Reply) (block blocks st
         let f = ap (λ (o : Op). o.first) same in
         let g = ap (λ (o : Op). o.round) same in
         record {
-          range = p.range;
           first-low = omega (arith, f, p.parts.first-low);
           block-low = subst (λ (o : Op). on_block o.kind ≡ true → o.first < m) (sym same) p.parts.block-low;
           round-low = omega (arith, g, round_high c.op p.parts.op-right);
@@ -210,6 +212,16 @@ module _ (n m size stripes : ℕ) (c : Coordinator) (r : Reply) (block blocks st
           (step_is ∙ ap went (rw (← count_here, ← eq, le-ltb k q l) (ap (acted n m size (buffered d blocks' stripe)) (sym (decided_here x ex)))))
           ac.answer (sym (acted_blocks n m size (buffered d blocks' stripe) x)) ac.stripe-left ac.coded-left
 
+-- the same at numbers that are these
+module _ (n m size n' m' size' : ℕ) (en : n ≡ n') (em : m ≡ m') (es : size ≡ size') (stripes : ℕ) (c : Coordinator) (r : Reply) where
+  pub took_at : (block blocks stripe coded : List ℕ) (a : Answer) (blocks' stripe' coded' : List ℕ) → Took n m size stripes c r block blocks stripe coded a blocks' stripe' coded'
+      → Took n' m' size' stripes c r block blocks stripe coded a blocks' stripe' coded'
+  took_at block blocks stripe coded a blocks' stripe' coded' t = rw (← en, ← em, ← es) t
+
+  pub refusal_at : (block blocks stripe coded : ℕ) → 0 ≡ take_refusal n' m' size' stripes c r block blocks stripe coded
+      → 0 ≡ take_refusal n m size stripes c r block blocks stripe coded
+  refusal_at block blocks stripe coded t = rw (en, em, es) t
+
 crashed_idle : (n : ℕ) (h : Buffered) → h.state.op.kind ≡ idle_kind → crashed n h ≡ record { next = h; sent = []; seen = nothing_seen }
 unfolding crashed
 crashed_idle n h k = rw (eq-eqb h.state.op.kind idle_kind k)
@@ -223,27 +235,25 @@ unfolding drawn_then
 drawn_given d f time next e = rw e
 
 -- a crash
-module _ (n m size stripes : ℕ) (c : Coordinator) (blocks stripe coded : List ℕ) (bad : ℕ) (e : bad ≡ crash_refusal n m size stripes c) where
-  pub crash_refused : (a : Answer) → (bad ≡ 0 → ⊥) → a ≡ answer_of c (refused bad)
-      → returned a blocks stripe coded ≡ crash_call n m size stripes c blocks stripe coded
-  unfolding crash_step buffered returned_by blocks_after stripe_after coded_after
-  crash_refused a h q =
-      ap (λ (x : Answer). returned x blocks stripe coded) q
-      ∙ ap (returned_by (buffered c blocks stripe) coded) (sym (checked_stop _ bad _ e h))
+module _ (n m size stripes : ℕ) (c : Coordinator) (blocks stripe coded : List ℕ) where
+  pub crash_refused : (r : Refusal) → number_of_refusal r ≡ crash_refusal n m size stripes c
+      → returned (answer_in c (Err r)) blocks stripe coded ≡ crash_call n m size stripes c blocks stripe coded
+  unfolding crash_step buffered returned_by blocks_after stripe_after coded_after answer_of
+  crash_refused r e = ap (returned_by (buffered c blocks stripe) coded) (sym (checked_stop _ _ _ e (nonzero r)))
 
-  pub crash_idle : (a : Answer) → bad ≡ 0 → c.op.kind ≡ idle_kind → a ≡ kept_answer c
+  pub crash_idle : (a : Answer) → 0 ≡ crash_refusal n m size stripes c → c.op.kind ≡ idle_kind → a ≡ kept_answer c
       → returned a blocks stripe coded ≡ crash_call n m size stripes c blocks stripe coded
   unfolding crash_step buffered kept_answer answer_of sent_count sent_message sent_blocks returned_by blocks_after stripe_after coded_after
-  crash_idle a z k q =
+  crash_idle a e k q =
       ap (λ (x : Answer). returned x blocks stripe coded) q
-      ∙ ap (returned_by (buffered c blocks stripe) coded) (sym (checked_pass _ bad _ e z ∙ ap went (crashed_idle n (buffered c blocks stripe) k)))
+      ∙ ap (returned_by (buffered c blocks stripe) coded) (sym (checked_pass _ 0 _ e refl ∙ ap went (crashed_idle n (buffered c blocks stripe) k)))
 
-  pub crash_cut : (a : Answer) → bad ≡ 0 → (c.op.kind ≡ idle_kind → ⊥) → a ≡ end_answer c cut_seen letter_c no_bricks 0 no_message
+  pub crash_cut : (a : Answer) → 0 ≡ crash_refusal n m size stripes c → (c.op.kind ≡ idle_kind → ⊥) → a ≡ end_answer c cut_seen letter_c no_bricks 0 no_message
       → returned a blocks stripe coded ≡ crash_call n m size stripes c blocks stripe coded
   unfolding crash_step ending letter_of buffered end_answer answer_of sent_count sent_message sent_blocks returned_by blocks_after stripe_after coded_after
-  crash_cut a z k q =
+  crash_cut a e k q =
       ap (λ (x : Answer). returned x blocks stripe coded) q
-      ∙ ap (returned_by (buffered c blocks stripe) coded) (sym (checked_pass _ bad _ e z ∙ ap went (crashed_runs n (buffered c blocks stripe) k)))
+      ∙ ap (returned_by (buffered c blocks stripe) coded) (sym (checked_pass _ 0 _ e refl ∙ ap went (crashed_runs n (buffered c blocks stripe) k)))
 
 -- what a draw's answer says of its refusal
 drawn_number : (c : Clock) (reading time : ℕ) (next : Clock) → draw_of c reading ≡ Drawn time next → draw_refusal c reading ≡ 0
@@ -259,14 +269,27 @@ refused_nonzero c reading number e z = go (leb (draw_refusal c reading) passed) 
     go true l q = let y : ◌≡◌ {A = ℕ} 0 1 = cc in absurd (omega arith)
     go false l q = let y : draw_refusal c reading ≡ number = cc in let h = leb-false (draw_refusal c reading) passed l in absurd (omega arith)
 
--- a call whose checks refuse
-module _ (c : Coordinator) (blocks stripe coded : List ℕ) where
-  call_refused : (k : ℕ) (a : Answer) (s : Step) (number : ℕ) → number ≡ k → (number ≡ 0 → ⊥) → a ≡ answer_of c (refused number)
-      → returned a blocks stripe coded ≡ returned_by (buffered c blocks stripe) coded (after_checks k s)
-  unfolding buffered returned_by blocks_after stripe_after coded_after
-  call_refused k a s number e h q =
-      ap (λ (x : Answer). returned x blocks stripe coded) q
-      ∙ ap (returned_by (buffered c blocks stripe) coded) (sym (checked_stop k number s e h))
+-- the answer of a start whose own checks pass, by what the draw gave
+module _ (c : Coordinator) (reading kind phase number first : ℕ) (targets : List ℕ) where
+  pub started_late : (r : Refusal) → Refused (number_of_refusal r) ≡ draw_of c.clock reading → answer_in c (Err r) ≡ started c reading kind phase number first targets
+  unfolding started answer_of number_of
+  started_late r e =
+      let z : number_of_refusal r ≡ draw_refusal c.clock reading = ap number_of e ∙ draw_number c.clock reading in
+      ap (answer_of c) (sym (checked_stop _ _ _ (start_late [] c reading 0 none_left _ refl z (nonzero r)) (nonzero r)))
+
+  pub started_busy : (time : ℕ) (next : Clock) → Drawn time next ≡ draw_of c.clock reading → (c.op.kind ≡ idle_kind → ⊥)
+      → answer_in c (Err Busy) ≡ started c reading kind phase number first targets
+  unfolding started answer_of
+  started_busy time next e h =
+      ap (answer_of c) (sym (checked_stop _ busy _ (start_busy [] c reading 0 none_left refl (drawn_number c.clock reading time next (sym e)) h) (λ y. absurd (omega arith))))
+
+  pub started_begun : (time : ℕ) (next : Clock) → Drawn time next ≡ draw_of c.clock reading → c.op.kind ≡ idle_kind
+      → start_answer c.geometry next (first_op kind phase number time first) targets ≡ started c reading kind phase number first targets
+  unfolding started starting buffered start_answer answer_of sent_count sent_message round_message first_op
+  started_begun time next e h =
+      ap (answer_of c)
+      (sym (checked_pass _ 0 _ (start_passes [] c reading 0 none_left refl (drawn_number c.clock reading time next (sym e)) h) refl
+      ∙ drawn_given (draw_of c.clock reading) _ time next (sym e)))
 
 -- any start: l are its checks before its draw; its first round is of this kind and phase, on a stripe from a brick on, with this stripe kept
 module _ (l : List ℕ) (c : Coordinator) (reading kind phase number first : ℕ) (blocks stripe coded kept targets : List ℕ) where
@@ -282,33 +305,54 @@ module _ (l : List ℕ) (c : Coordinator) (reading kind phase number first : ℕ
   none_coded : eqb phase write_kind ≡ false → coded ≡ cond (eqb phase write_kind) [] coded
   none_coded p = rw p
 
-  module _ (bad : ℕ) (e : bad ≡ first_refusal l) where
-    pub start_refused : (a : Answer) → (bad ≡ 0 → ⊥) → a ≡ answer_of c (refused bad) → returned a blocks stripe coded ≡ start_call
-    start_refused a h q = call_refused c blocks stripe coded _ a _ bad (start_stops l c reading bad e h) h q
+  pub start_refused : (r : Refusal) → number_of_refusal r ≡ first_refusal l → returned (answer_in c (Err r)) blocks stripe coded ≡ start_call
+  unfolding buffered returned_by blocks_after stripe_after coded_after answer_of
+  start_refused r e = ap (returned_by (buffered c blocks stripe) coded) (sym (checked_stop _ _ _ (start_stops l c reading _ e (nonzero r)) (nonzero r)))
 
-    pub start_unread : (a : Answer) (d : Draw) (late k : ℕ) → bad ≡ 0 → d ≡ draw_of c.clock reading → d ≡ Refused late → k ≡ number_of d
-        → a ≡ answer_of c (refused k) → returned a blocks stripe coded ≡ start_call
-    unfolding number_of
-    start_unread a d late k z ed er ek q =
-        let h : k ≡ 0 → ⊥ = λ y. refused_nonzero c.clock reading late (sym ed ∙ er) (sym (ek ∙ ap number_of er) ∙ y) in
-        call_refused c blocks stripe coded _ a _ k (start_late l c reading bad e k z (ek ∙ ap number_of ed ∙ draw_number c.clock reading) h) h q
+  module _ (e : 0 ≡ first_refusal l) where
+    passes_here : start_call ≡ returned_by (buffered c blocks stripe) coded (after_checks (first_refusal (start_checks c reading)) (drawn_then (draw_of c.clock reading) begun))
+    passes_here =
+        ap (λ (k : ℕ). returned_by (buffered c blocks stripe) coded (after_checks k (drawn_then (draw_of c.clock reading) begun))) (start_goes l c reading 0 e refl)
 
-    pub start_running : (a : Answer) (time : ℕ) (next : Clock) → bad ≡ 0 → draw_of c.clock reading ≡ Drawn time next → (c.op.kind ≡ idle_kind → ⊥)
-        → a ≡ answer_of c (refused busy) → returned a blocks stripe coded ≡ start_call
-    start_running a time next z ed r q =
-        call_refused c blocks stripe coded _ a _ busy (start_busy l c reading bad e z (drawn_number c.clock reading time next ed) r) (λ y. absurd (omega arith)) q
+    stopped_step : (r : Refusal) (k : ℕ) (d : Draw) → answer_in c (Err r)
+        ≡ answer_of c (after_checks k (drawn_then d (λ (time : ℕ) (clock : Clock). starting (buffered c [] []) clock (first_op kind phase number time first) [] targets)))
+        → returned (answer_in c (Err r)) blocks stripe coded ≡ returned_by (buffered c blocks stripe) coded (after_checks k (drawn_then d begun))
+    unfolding after_checks drawn_then buffered returned_by blocks_after stripe_after coded_after answer_of
+    stopped_step r zero (Drawn time next) h = absurd (nonzero r (ap (λ (a : Answer). a.refusal) h))
+    stopped_step r zero (Refused late) h = ap (λ (a : Answer). returned a blocks stripe coded) h
+    stopped_step r (suc k) d h =
+        ap (λ (a : Answer). returned a blocks stripe coded) (h ∙ ap (answer_of c) (checked_stop (suc k) (suc k) _ refl (λ z. absurd (omega arith))))
+        ∙ ap (returned_by (buffered c blocks stripe) coded) (sym (checked_stop (suc k) (suc k) (drawn_then d begun) refl (λ z. absurd (omega arith))))
 
-    pub start_begun : (a : Answer) (time : ℕ) (next : Clock) (stripe' targets' : List ℕ) → bad ≡ 0 → draw_of c.clock reading ≡ Drawn time next → c.op.kind ≡ idle_kind
-        → stripe' ≡ kept → targets' ≡ targets → eqb phase write_kind ≡ false → a ≡ start_answer c.geometry next (first_op kind phase number time first) targets'
-        → returned a blocks stripe' coded ≡ start_call
-    unfolding buffered returned_by blocks_after stripe_after coded_after starting start_answer answer_of sent_count sent_message sent_blocks round_message first_op
-    start_begun a time next stripe' targets' z ed r es et p q =
-        ap (λ (x : Answer). returned x blocks stripe' coded) (q ∙ ap (start_answer c.geometry next (first_op kind phase number time first)) et)
-        ∙ ap (λ (x : List ℕ). returned (start_answer c.geometry next (first_op kind phase number time first) targets) blocks x coded) es
-        ∙ ap (returned (start_answer c.geometry next (first_op kind phase number time first) targets) blocks kept) (none_coded p)
-        ∙ ap (returned_by (buffered c blocks stripe) coded)
-        (sym (checked_pass _ 0 _ (start_passes l c reading bad e z (drawn_number c.clock reading time next ed) r) refl
-        ∙ drawn_given (draw_of c.clock reading) begun time next ed))
+    pub start_stopped : (r : Refusal) → answer_in c (Err r) ≡ started c reading kind phase number first targets
+        → returned (answer_in c (Err r)) blocks stripe coded ≡ start_call
+    unfolding started
+    start_stopped r q = stopped_step r (first_refusal (start_checks c reading)) (draw_of c.clock reading) q ∙ sym passes_here
+
+    begun_step : (a : Code.Answer) (k : ℕ) (d : Draw) → ((late : ℕ) → d ≡ Refused late → late ≡ 0 → ⊥) → eqb phase write_kind ≡ false
+        → answered a ≡ answer_of c (after_checks k (drawn_then d (λ (time : ℕ) (clock : Clock). starting (buffered c [] []) clock (first_op kind phase number time first) [] targets)))
+        → returned (answered a) blocks kept coded ≡ returned_by (buffered c blocks stripe) coded (after_checks k (drawn_then d begun))
+    unfolding after_checks drawn_then starting buffered returned_by blocks_after stripe_after coded_after answer_of sent_count sent_message sent_blocks round_message first_op
+    begun_step a zero (Drawn time next) n p h =
+        ap (λ (x : Answer). returned x blocks kept coded) h
+        ∙ ap (returned (answer_of c (went (begun time next))) blocks kept) (none_coded p)
+    begun_step a zero (Refused late) n p h = absurd (n late refl (sym (ap (λ (x : Answer). x.refusal) h)))
+    begun_step a (suc k) d n p h =
+        let z : 0 ≡ suc k = ap (λ (x : Answer). x.refusal) (h ∙ ap (answer_of c) (checked_stop (suc k) (suc k) _ refl (λ y. absurd (omega arith)))) in absurd (omega arith)
+
+    pub start_begun : (a : Code.Answer) (stripe' : List ℕ) → answered a ≡ started c reading kind phase number first targets → stripe' ≡ kept
+        → eqb phase write_kind ≡ false → returned (answered a) blocks stripe' coded ≡ start_call
+    unfolding started
+    start_begun a stripe' q es p =
+        ap (λ (x : List ℕ). returned (answered a) blocks x coded) es
+        ∙ begun_step a (first_refusal (start_checks c reading)) (draw_of c.clock reading) (refused_nonzero c.clock reading) p q
+        ∙ sym passes_here
+
+    -- where nothing is written, whatever was answered
+    pub start_answered : (x : Result Code.Answer Refusal) → answer_in c x ≡ started c reading kind phase number first targets → stripe ≡ kept
+        → eqb phase write_kind ≡ false → returned (answer_in c x) blocks stripe coded ≡ start_call
+    start_answered (Ok a) q es p = start_begun a stripe q es p
+    start_answered (Err r) q es p = start_stopped r q
 
 -- each of the four is such a start
 module _ (n m size stripes : ℕ) (c : Coordinator) (number reading : ℕ) (blocks stripe coded : List ℕ) (x : Returned) where
@@ -412,7 +456,3 @@ block_fits n m size stripes c number block bytes stripe bad e z =
 pub block_brick : (n m size stripes : ℕ) (c : Coordinator) (number block bad : ℕ) → bad ≡ first_refusal (read_block_checks n m size stripes c number block []) → bad ≡ 0 → block < n
 block_brick n m size stripes c number block bad e z =
     let p = read_block_passed n m size stripes c number block bad [] e z in omega (arith, p.block-low, p.range.m-high)
-
-pub start_by : (geometry : Geometry) (clock : Clock) (op op' : Op) (targets : List ℕ) (a : Answer) → a ≡ start_answer geometry clock op targets → op ≡ op'
-    → a ≡ start_answer geometry clock op' targets
-start_by geometry clock op op' targets a e eo = e ∙ ap (λ (o : Op). start_answer geometry clock o targets) eo

@@ -1,108 +1,116 @@
 -- The ways through the refusals: k, a and d are what the called tests gave.
-use mathlib.Core.Path.{◌≡◌, refl, sym, ap, ap₂, ◌∙◌}
+use mathlib.Core.Path.{◌≡◌, sym, ap, ◌∙◌}
 use mathlib.Core.Bool.{Bool, true, false, cond}
 use mathlib.Core.List.{List, [], ◌∷◌}
-use Prim.Native.Nat.{ℕ, zero, suc, ◌*◌, ◌/◌, ◌%◌, ◌≤◌, ◌<◌}
+use Prim.Native.Nat.{ℕ, ◌*◌, ◌/◌, ◌%◌, ◌≤◌, ◌<◌}
 use native.Mathlib.Nat.{mul-le-mul, mul-div_cancel, mul-mod_left, div-add-mod'}
 use native.Mathlib.Omega.{arith}
 use lib.ListN.{length}
 use Rattle.erasure.specs.Code.{agree, decoded_of}
-use borrow.Author.Tests.{eq-eqb, ne_eqb, le-leb, lt-leb}
-use Rattle.erasure.specs.Refusals.{all_below, all_different, number_refusal, set_refusal, encode_refusal, list_refusal, decode_refusal, decoded_buffer, unless_refused}
+use borrow.Author.Tests.{eq-eqb, ne_eqb}
+use Rattle.erasure.specs.Refusals.{number_refusal, set_refusal, encode_refusal, list_refusal, decode_refusal, decoded_buffer, unless_refused}
 use Rattle.settings.specs.Ranges.{max_bricks, max_size, code_refusal}
 use Rattle.settings.proofs.Laws.RangeLaws.{code_passed}
-use Rattle.settings.specs.Refusal.{passed, bad_length, bad_number, bad_brick_set, blocks_disagree, first_refusal}
-use Rattle.settings.proofs.Laws.RefusalLaws.{first_stop, first_pass, passed_first, passed_rest, tested}
+use Rattle.settings.specs.declared.Refusal.{Refusal}
+use Rattle.settings.specs.declared.Refusal.TheVariants.{BadSetting, BadLength, BadNumber, BadBrickSet, BadCheck, BadRecord, BadReading, ClockSpent}
+use Rattle.settings.specs.declared.Refusal.TheVariants.{Busy, BadMessage, StrayReply, BadLine, BadStripe, BadBlock, BlocksDisagree}
+use Rattle.settings.specs.Refusal.{number_of_refusal, passed, bad_length, blocks_disagree, first_refusal}
+use Rattle.settings.proofs.Laws.RefusalLaws.{first_stop, first_pass, first_alone, passed_first, passed_rest, tested}
 
-pub encode_settings : (n m size s c k : ℕ) → k ≡ code_refusal n m size → (k ≡ 0 → ⊥) → k ≡ encode_refusal n m size s c
+pub encode_settings : (n m size s c : ℕ) → (code_refusal n m size ≡ 0 → ⊥) → encode_refusal n m size s c ≡ code_refusal n m size
 unfolding encode_refusal
-encode_settings n m size s c k e h = e ∙ first_stop (code_refusal n m size) _ (λ z. h (e ∙ z))
+encode_settings n m size s c h = sym (first_stop (code_refusal n m size) _ h)
 
-pub encode_stripe : (n m size s c k : ℕ) → k ≡ code_refusal n m size → k ≡ 0 → (s ≡ m * size → ⊥) → bad_length ≡ encode_refusal n m size s c
+pub encode_stripe : (n m size s c : ℕ) → code_refusal n m size ≡ 0 → (s ≡ m * size → ⊥) → encode_refusal n m size s c ≡ bad_length
 unfolding encode_refusal first_refusal
-encode_stripe n m size s c k e z h = rw (← e, z, ne_eqb s (m * size) h)
+encode_stripe n m size s c z h = rw (z, ne_eqb s (m * size) h)
 
-pub encode_coded : (n m size s c k : ℕ) → k ≡ code_refusal n m size → k ≡ 0 → s ≡ m * size → (c ≡ n * size → ⊥) → bad_length ≡ encode_refusal n m size s c
+pub encode_coded : (n m size s c : ℕ) → code_refusal n m size ≡ 0 → s ≡ m * size → (c ≡ n * size → ⊥) → encode_refusal n m size s c ≡ bad_length
 unfolding encode_refusal first_refusal
-encode_coded n m size s c k e z a h = rw (← e, z, eq-eqb s (m * size) a, ne_eqb c (n * size) h)
+encode_coded n m size s c z a h = rw (z, eq-eqb s (m * size) a, ne_eqb c (n * size) h)
 
-pub encode_passes : (n m size s c k : ℕ) → k ≡ code_refusal n m size → k ≡ 0 → s ≡ m * size → c ≡ n * size → passed ≡ encode_refusal n m size s c
+pub encode_passes : (n m size s c : ℕ) → code_refusal n m size ≡ 0 → s ≡ m * size → c ≡ n * size → encode_refusal n m size s c ≡ passed
 unfolding encode_refusal first_refusal
-encode_passes n m size s c k e z a h = rw (← e, z, eq-eqb s (m * size) a, eq-eqb c (n * size) h)
+encode_passes n m size s c z a h = rw (z, eq-eqb s (m * size) a, eq-eqb c (n * size) h)
 
-pub list_settings : (n m size : ℕ) (bricks : List ℕ) (b s k : ℕ) → k ≡ code_refusal n m size → (k ≡ 0 → ⊥) → k ≡ list_refusal n m size bricks b s
+pub list_settings : (n m size : ℕ) (bricks : List ℕ) (b s : ℕ) → (code_refusal n m size ≡ 0 → ⊥)
+    → list_refusal n m size bricks b s ≡ code_refusal n m size
 unfolding list_refusal
-list_settings n m size bricks b s k e h = e ∙ first_stop (code_refusal n m size) _ (λ z. h (e ∙ z))
+list_settings n m size bricks b s h = sym (first_stop (code_refusal n m size) _ h)
 
-list_blocks : (n m size : ℕ) (bricks : List ℕ) (b s k : ℕ) → k ≡ code_refusal n m size → k ≡ 0 → (b ≡ length bricks * size → ⊥)
-    → bad_length ≡ list_refusal n m size bricks b s
+list_blocks : (n m size : ℕ) (bricks : List ℕ) (b s : ℕ) → code_refusal n m size ≡ 0 → (b ≡ length bricks * size → ⊥)
+    → list_refusal n m size bricks b s ≡ bad_length
 unfolding list_refusal first_refusal
-list_blocks n m size bricks b s k e z h = rw (← e, z, ne_eqb b (length bricks * size) h)
+list_blocks n m size bricks b s z h = rw (z, ne_eqb b (length bricks * size) h)
 
 -- a size that is not refused is not 0
-pub size_positive : (n m size k : ℕ) → k ≡ code_refusal n m size → k ≡ 0 → 0 < size
-size_positive n m size k e z = (code_passed n m size (sym e ∙ z)).size_low
+pub size_positive : (n m size : ℕ) → code_refusal n m size ≡ 0 → 0 < size
+size_positive n m size z = (code_passed n m size z).size_low
 
 -- a block for each brick, by division: their number, and nothing left
-pub list_quotient : (n m size : ℕ) (bricks : List ℕ) (b s k : ℕ) → k ≡ code_refusal n m size → k ≡ 0 → (b / size ≡ length bricks → ⊥)
-    → bad_length ≡ list_refusal n m size bricks b s
-list_quotient n m size bricks b s k e z h =
-    list_blocks n m size bricks b s k e z
-    (λ q. h (ap (λ (x : ℕ). x / size) q ∙ mul-div_cancel (length bricks) (size_positive n m size k e z)))
+pub list_quotient : (n m size : ℕ) (bricks : List ℕ) (b s : ℕ) → code_refusal n m size ≡ 0 → (b / size ≡ length bricks → ⊥)
+    → list_refusal n m size bricks b s ≡ bad_length
+list_quotient n m size bricks b s z h =
+    list_blocks n m size bricks b s z (λ q. h (ap (λ (x : ℕ). x / size) q ∙ mul-div_cancel (length bricks) (size_positive n m size z)))
 
-pub list_remainder : (n m size : ℕ) (bricks : List ℕ) (b s k : ℕ) → k ≡ code_refusal n m size → k ≡ 0 → (b % size ≡ 0 → ⊥)
-    → bad_length ≡ list_refusal n m size bricks b s
-list_remainder n m size bricks b s k e z h =
-    list_blocks n m size bricks b s k e z (λ q. h (ap (λ (x : ℕ). x % size) q ∙ mul-mod_left (length bricks) size))
+pub list_remainder : (n m size : ℕ) (bricks : List ℕ) (b s : ℕ) → code_refusal n m size ≡ 0 → (b % size ≡ 0 → ⊥)
+    → list_refusal n m size bricks b s ≡ bad_length
+list_remainder n m size bricks b s z h =
+    list_blocks n m size bricks b s z (λ q. h (ap (λ (x : ℕ). x % size) q ∙ mul-mod_left (length bricks) size))
 
 pub block_each : (size b l : ℕ) → b / size ≡ l → b % size ≡ 0 → b ≡ l * size
 block_each size b l q r = let d = div-add-mod' b size in let e = ap (λ (x : ℕ). x * size) q in omega arith
 
-pub list_stripe : (n m size : ℕ) (bricks : List ℕ) (b s k : ℕ) → k ≡ code_refusal n m size → k ≡ 0 → b / size ≡ length bricks → b % size ≡ 0
-    → (s ≡ m * size → ⊥) → bad_length ≡ list_refusal n m size bricks b s
+pub list_stripe : (n m size : ℕ) (bricks : List ℕ) (b s : ℕ) → code_refusal n m size ≡ 0 → b / size ≡ length bricks → b % size ≡ 0
+    → (s ≡ m * size → ⊥) → list_refusal n m size bricks b s ≡ bad_length
 unfolding list_refusal first_refusal
-list_stripe n m size bricks b s k e z q r h =
-    rw (← e, z, eq-eqb b (length bricks * size) (block_each size b (length bricks) q r), ne_eqb s (m * size) h)
+list_stripe n m size bricks b s z q r h =
+    rw (z, eq-eqb b (length bricks * size) (block_each size b (length bricks) q r), ne_eqb s (m * size) h)
 
 -- the lengths are right: what is left are the bricks
-pub list_bricks : (n m size : ℕ) (bricks : List ℕ) (b s k x y v : ℕ) → k ≡ code_refusal n m size → k ≡ 0 → b / size ≡ length bricks → b % size ≡ 0
-    → s ≡ m * size → x ≡ number_refusal n bricks → y ≡ set_refusal m bricks → v ≡ first_refusal (x ∷ y ∷ []) → v ≡ list_refusal n m size bricks b s
+list_bricks : (n m size : ℕ) (bricks : List ℕ) (b s : ℕ) → code_refusal n m size ≡ 0 → b / size ≡ length bricks → b % size ≡ 0
+    → s ≡ m * size → list_refusal n m size bricks b s ≡ first_refusal (number_refusal n bricks ∷ set_refusal m bricks ∷ [])
 unfolding list_refusal
-list_bricks n m size bricks b s k x y v e z q r h ex ey ev =
-    ev ∙ ap₂ (λ (u w : ℕ). first_refusal (u ∷ w ∷ [])) ex ey
-    ∙ sym
-    (first_pass (code_refusal n m size) _ (sym e ∙ z)
-    ∙ first_pass _ _ (rw (eq-eqb b (length bricks * size) (block_each size b (length bricks) q r), eq-eqb s (m * size) h)))
+list_bricks n m size bricks b s z q r h =
+    first_pass (code_refusal n m size) _ z
+    ∙ first_pass _ _ (rw (eq-eqb b (length bricks * size) (block_each size b (length bricks) q r), eq-eqb s (m * size) h))
 
-pub number_refused : (n : ℕ) (bricks : List ℕ) (t : Bool) → t ≡ all_below bricks n → t ≡ false → bad_number ≡ number_refusal n bricks
-number_refused n bricks t e f = rw (← e, f)
+pub list_numbers : (n m size : ℕ) (bricks : List ℕ) (b s : ℕ) → code_refusal n m size ≡ 0 → b / size ≡ length bricks → b % size ≡ 0
+    → s ≡ m * size → (number_refusal n bricks ≡ 0 → ⊥) → list_refusal n m size bricks b s ≡ number_refusal n bricks
+list_numbers n m size bricks b s z q r h f = list_bricks n m size bricks b s z q r h ∙ sym (first_stop (number_refusal n bricks) _ f)
 
-pub number_passes : (n : ℕ) (bricks : List ℕ) (t : Bool) → t ≡ all_below bricks n → t ≡ true → passed ≡ number_refusal n bricks
-number_passes n bricks t e f = rw (← e, f)
-
-pub set_count : (m : ℕ) (bricks : List ℕ) → length bricks < m → bad_brick_set ≡ set_refusal m bricks
-set_count m bricks c = rw (lt-leb m (length bricks) c)
-
-pub set_repeat : (m : ℕ) (bricks : List ℕ) (d : Bool) → m ≤ length bricks → d ≡ all_different bricks → d ≡ false → bad_brick_set ≡ set_refusal m bricks
-set_repeat m bricks d c e f = rw (le-leb m (length bricks) c, ← e, f)
-
-pub set_passes : (m : ℕ) (bricks : List ℕ) (d : Bool) → m ≤ length bricks → d ≡ all_different bricks → d ≡ true → passed ≡ set_refusal m bricks
-set_passes m bricks d c e f = rw (le-leb m (length bricks) c, ← e, f)
-
--- where the first of two passed, the second
-pub first_second : (x y : ℕ) → x ≡ 0 → y ≡ first_refusal (x ∷ y ∷ [])
-first_second x y e = sym (first_pass x (y ∷ []) e ∙ only y)
-  where
-    only : (y : ℕ) → first_refusal (y ∷ []) ≡ y
-    only zero = unfold first_refusal in refl
-    only (suc y) = unfold first_refusal in refl
+pub list_set : (n m size : ℕ) (bricks : List ℕ) (b s : ℕ) → code_refusal n m size ≡ 0 → b / size ≡ length bricks → b % size ≡ 0
+    → s ≡ m * size → number_refusal n bricks ≡ 0 → list_refusal n m size bricks b s ≡ set_refusal m bricks
+list_set n m size bricks b s z q r h f =
+    list_bricks n m size bricks b s z q r h ∙ first_pass (number_refusal n bricks) _ f ∙ first_alone (set_refusal m bricks)
 
 -- the lengths of buffers in range
-pub lengths_fit : (n m size k : ℕ) → k ≡ code_refusal n m size → k ≡ 0 → (m * size ≤ max_bricks * max_size) × (n * size ≤ max_bricks * max_size)
-lengths_fit n m size k e z =
-    let r = code_passed n m size (sym e ∙ z) in
+pub lengths_fit : (n m size : ℕ) → code_refusal n m size ≡ 0 → (m * size ≤ max_bricks * max_size) × (n * size ≤ max_bricks * max_size)
+lengths_fit n m size z =
+    let r = code_passed n m size z in
     let few : m ≤ max_bricks = let a = r.m-high in let b = r.n-high in omega arith in
     (mul-le-mul few r.size-high, mul-le-mul r.n-high r.size-high)
+
+-- a refusal's number is not 0
+pub number_above : (r : Refusal) → 0 < number_of_refusal r
+number_above BadSetting = omega arith
+number_above BadLength = omega arith
+number_above BadNumber = omega arith
+number_above BadBrickSet = omega arith
+number_above BadCheck = omega arith
+number_above BadRecord = omega arith
+number_above BadReading = omega arith
+number_above ClockSpent = omega arith
+number_above Busy = omega arith
+number_above BadMessage = omega arith
+number_above StrayReply = omega arith
+number_above BadLine = omega arith
+number_above BadStripe = omega arith
+number_above BadBlock = omega arith
+number_above BlocksDisagree = omega arith
+
+pub number_not : (r : Refusal) → number_of_refusal r ≡ 0 → ⊥
+number_not r z = let a = number_above r in omega arith
 
 -- a refused call leaves the buffer, and one that is not gives the code
 pub refused_leaves : (number : ℕ) (old new : List ℕ) → (number ≡ 0 → ⊥) → old ≡ unless_refused number old new
@@ -159,3 +167,9 @@ stripe_disagrees n m size bricks blocks old out t z e f eo =
     eo ∙ ap (λ (b : Bool). cond b (decoded_of m size bricks blocks) old) f
     ∙ refused_leaves _ old (decoded_of m size bricks blocks)
     (λ q. let w : ◌≡◌ {A = ℕ} 15 0 = decode_disagrees n m size bricks blocks (length old) t z e f ∙ q in omega arith)
+
+-- the ways through the checks of an encoding and of a list
+pub ruleset encode_ways = (encode_settings, encode_stripe, encode_coded, encode_passes, lengths_fit, number_above)
+
+pub ruleset list_ways =
+    (list_settings, size_positive, list_quotient, list_remainder, list_stripe, list_numbers, list_set, lengths_fit, number_above)

@@ -320,3 +320,6 @@ decoded_by_polynomials n m size bricks blocks old number out bytes e eo =
         → number ≡ blocks_disagree
     by true a l h = absurd (h (e ∙ sym (decode_agrees n m size bricks blocks (length old) _ l refl a)))
     by false a l h = e ∙ sym (decode_disagrees n m size bricks blocks (length old) _ l refl a)
+
+-- a decoding cut into its first m blocks and the rest
+pub ruleset cut_ways = (front_set, own_within, own_length, rest_length, cut_apart, cut_agree, cut_decoded)

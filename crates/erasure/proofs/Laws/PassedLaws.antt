@@ -22,6 +22,7 @@ use Rattle.byte_lists.proofs.Laws.BoolLaws.{and_left, and_right}
 use Rattle.settings.specs.Refusal.{refuse_unless, bad_length, bad_number}
 use Rattle.settings.proofs.Laws.RefusalLaws.{passed_first, passed_rest, tested}
 use Rattle.erasure.specs.Workers.{Encodes, Decodes}
+use Rattle.erasure.proofs.Laws.CodeRefusalLaws.{number_above, refused_leaves, passed_gives}
 
 stands_nowhere : (x : ℕ) (l : List ℕ) → stands x l ≡ false → (k : ℕ) → k < length l → get_or l k 0 ≡ x → ⊥
 unfolding stands
@@ -158,3 +159,8 @@ first_of_all_set m h = subst PointSet (sym (first_of_all m h)) (first_set m h)
 
 pub first_of_all_length : (m : ℕ) → m ≤ max_bricks → length (take m all_points) ≡ m
 first_of_all_length m h = ap length (first_of_all m h) ∙ length_first m
+
+pub ruleset first_points_ways = (first_of_all_set, first_of_all_length, first_of_all)
+
+-- the ways through an encoding
+pub ruleset encoding_ways = (encode_passed, number_above, refused_leaves, passed_gives)

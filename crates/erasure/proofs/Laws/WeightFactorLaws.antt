@@ -79,3 +79,6 @@ weight_all n m brick j k w hb hj ew a b =
         sum_single byte_field bytes_are_a_field m (λ (i : ℕ). byte_field.mul (base i) (byte (byte_at 1 (unit_stripe m j) i 0))) j hj
         (λ i h apart. ap (λ (x : ℕ). byte_field.mul (base i) (byte x)) (unit i h ∙ ap one_if (ne_eqb i j apart)) ∙ mul_zero byte_field bytes_are_a_field (base i))
         ∙ ap (λ (x : ℕ). byte_field.mul (base j) (byte x)) (unit j hj ∙ ap one_if (eq-eqb j j refl)) ∙ bytes_are_a_field.mul-one (base j)
+
+-- the turns of the loop over the factors
+pub ruleset weight_steps = (weight_none, weight_taken, weight_left, weight_all)

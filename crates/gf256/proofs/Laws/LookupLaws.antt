@@ -6,9 +6,9 @@ use Prim.Native.Nat.{ℕ, zero, suc, ◌+◌, ◌-◌, ◌%◌, ◌^◌, ◌≤�
 use native.Mathlib.Nat.{mod-eq_of_lt}
 use native.Mathlib.Omega.{arith}
 use lib.Dec.{ltb}
-use borrow.Author.Tests.{ltb-true, ltb-false, lt-ltb, le-ltb, eq-eqb, ne_eqb}
+use borrow.Author.Tests.{ltb-true, ltb-false, lt-ltb, eq-eqb, ne_eqb}
 use lib.ListN.{get_or}
-use Rattle.gf256.specs.Product.{product, power, power_count, inverse, quotient}
+use Rattle.gf256.specs.Product.{product, power, power_count, inverse}
 use Rattle.gf256.specs.LogSums.{log_sum, max_log_sum, folded, held, product_in, sum_bits}
 use Rattle.gf256.proofs.Laws.ProductLaws.{product_zero, zero_product}
 use Rattle.gf256.proofs.Laws.TableLaws.{power_byte, power_add, power_cycle}
@@ -23,10 +23,6 @@ right_zero a b e = sym (product_zero a) ∙ ap (λ (x : ℕ). product a x) (sym 
 
 pub of_zero : (a : ℕ) → a ≡ 0 → 0 ≡ inverse a
 of_zero a e = sym inverse_zero ∙ ap inverse (sym e)
-
-pub quotient_is : (a b c r : ℕ) → c ≡ inverse b → r ≡ product a c → r ≡ quotient a b
-unfolding quotient
-quotient_is a b c r e f = f ∙ ap (product a) e
 
 -- folding keeps the power,
 pub folded_power : (sum : ℕ) → power (folded sum) ≡ power sum
@@ -49,14 +45,10 @@ folded_below sum h = go (ltb sum power_count) refl
     go true t = ltb-true sum power_count t
     go false t = omega (arith, h)
 
--- the ways of a fold
+-- a sum that is not folded
 pub folded_low : (sum : ℕ) → sum < power_count → sum ≡ folded sum
 unfolding folded
 folded_low sum h = rw (lt-ltb sum power_count h)
-
-pub folded_high : (sum i : ℕ) → power_count ≤ sum → i + power_count ≡ sum → i ≡ folded sum
-unfolding folded
-folded_high sum i h e = rw (le-ltb sum power_count h) (omega arith)
 
 -- logarithms alone
 module _ (l : List ℕ) (hl : IsLogs l) where
@@ -114,3 +106,6 @@ module _ (p l : List ℕ) (hp : IsPowers p) (hl : IsLogs l) (a : ℕ) (na : a �
   -- the inverse's logarithm is 255 less that of a
   pub inverse_at : (r : ℕ) → r ≡ get_or p (folded (power_count - get_or l a 0)) 0 → r ≡ inverse a
   inverse_at r e = e ∙ power_at (power_count - get_or l a 0) (omega arith) ∙ sym (inverse_is l hl a na la)
+
+-- the ways of a product
+pub ruleset looked_up = (left_zero, right_zero, product_at, held_left, held_right, held_sum)

@@ -4,17 +4,16 @@ use mathlib.Core.Bool.{Bool, true, false}
 use mathlib.Core.List.{List}
 use Prim.Native.Nat.{ℕ, zero, suc, ◌+◌, ◌-◌, ◌≤◌, ◌<◌}
 use native.Mathlib.Omega.{arith}
+use native.Mathlib.Numerals.{add-one}
 use lib.ListN.{get_or}
-use borrow.Author.Tests.{lt-ltb, eq-eqb, ne_eqb}
+use borrow.Author.Tests.{eq-eqb, ne_eqb}
 use Rattle.settings.specs.declared.Settings.{Settings}
 use Rattle.settings.specs.Ranges.{max_capacity}
 use Rattle.image.specs.Brick.{Brick, entry_count, means_at, mark_at}
 use Rattle.image.specs.Parse.{image_block_at, held_in, mark_in, count_in}
-use Rattle.image.specs.Opening.{place_in, holding_for, holder_of, blank, entry_for, working_log}
+use Rattle.image.specs.Opening.{place_in, holding_for, holder_of, blank, working_log}
 use Rattle.image.specs.Workers.{ImageOpened}
 use Rattle.image.specs.declared.Entry.{Entry}
-use Rattle.image.specs.declared.Holding.{Holding}
-use Rattle.image.specs.declared.Holding.TheVariants.{Held}
 use Rattle.image.proofs.Laws.HubLaws.{log_at}
 use Rattle.image.proofs.Laws.ParseLaws.{count_in_lem}
 use Rattle.image.proofs.Laws.FieldTestLaws.{held_in_lem, mark_in_lem, holder_own}
@@ -25,10 +24,6 @@ unfolding holder_of
 own_place log zero n = refl
 own_place log (suc j) n = rw (ne_eqb (place_in (get_or log (suc j) blank).holding) 0 n) refl
 
-pub holder_here : (log : List Entry) (i k place : ℕ) → place ≡ place_in (get_or log k blank).holding → (place ≡ 0 → ⊥)
-    → holder_of log k ≡ holder_of log i → place ≡ holder_of log i
-holder_here log i k place p n w = p ∙ sym (own_place log k (λ z. n (p ∙ z))) ∙ w
-
 -- or that of the entry below,
 pub holder_down : (log : List Entry) (k : ℕ) → 0 < k → place_in (get_or log k blank).holding ≡ 0 → holder_of log k ≡ holder_of log (k - 1)
 unfolding holder_of
@@ -37,24 +32,23 @@ holder_down log (suc j) h e =
     let m : j ≡ suc j - 1 = omega arith in
     rw (eq-eqb (place_in (get_or log (suc j) blank).holding) 0 e) (ap (holder_of log) m)
 
-pub holder_next : (log : List Entry) (i k place : ℕ) → 0 < k → place ≡ place_in (get_or log k blank).holding → place ≡ 0
-    → holder_of log k ≡ holder_of log i → holder_of log (k - 1) ≡ holder_of log i
-holder_next log i k place h p z w = sym (holder_down log k h (sym p ∙ z)) ∙ w
+-- what the entries below k leave for the one at k
+unfoldable pub holder_below : List Entry → ℕ → ℕ
+holder_below log zero = 0
+holder_below log (suc k) = holder_of log k
 
--- down to the lowest
-pub holder_lowest : (log : List Entry) (i k place : ℕ) → k ≤ 0 → place ≡ place_in (get_or log 0 blank).holding → holder_of log k ≡ holder_of log i
-    → place ≡ holder_of log i
-unfolding holder_of
-holder_lowest log i k place h p w = let e : 0 ≡ k = omega arith in p ∙ ap (holder_of log) e ∙ w
+pub holder_below_is : (log : List Entry) (i k : ℕ) → k ≡ i + 1 → holder_below log k ≡ holder_of log i
+unfolding holder_below
+holder_below_is log i k e = rw (e, add-one) refl
 
-pub held_own_lem : (mark : Bool) (i : ℕ) → mark ≡ false → Held (i + 1) ≡ holding_for mark i
-unfolding holding_for
-held_own_lem mark i e = rw e refl
+pub holder_new : (log : List Entry) (k place : ℕ) → place ≡ place_in (get_or log k blank).holding → (place ≡ 0 → ⊥) → holder_below log (k + 1) ≡ place
+unfolding holder_below
+holder_new log k place p n = rw add-one (own_place log k (λ z. n (p ∙ z)) ∙ sym p)
 
-pub entry_made : (time : ℕ) (mark : Bool) (i n : ℕ) (h : Holding) → i < n → h ≡ holding_for mark i
-    → ◌≡◌ {A = Entry} (record { time = time; holding = h }) (entry_for time mark i n)
-unfolding entry_for
-entry_made time mark i n h l e = rw (lt-ltb i n l) (λ j. record { time = time; holding = e j })
+pub holder_kept : (log : List Entry) (k place : ℕ) → place ≡ place_in (get_or log k blank).holding → place ≡ 0 → holder_below log (k + 1) ≡ holder_below log k
+unfolding holder_below holder_of
+holder_kept log zero place p z = sym p ∙ z
+holder_kept log (suc k) place p z = rw (add-one, eq-eqb (place_in (get_or log (suc k) blank).holding) 0 (sym p ∙ z)) refl
 
 -- In an image that opens it is the block that the entry means, one of the blocks of entries up to its own.
 pub record Meant (s : Settings) (l : List ℕ) (x : Brick) (i : ℕ) : Type 0 where

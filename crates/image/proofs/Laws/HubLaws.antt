@@ -12,13 +12,17 @@ use Rattle.settings.specs.declared.Settings.{Settings}
 use Rattle.image.specs.Brick.{Brick, entry_count, time_at, mark_at, newest}
 use Rattle.image.specs.Parse.{Parsed, Opens, Refuses, parse}
 use Rattle.image.proofs.Laws.ParseLaws.{opened}
+use Rattle.std.specs.Prelude.{Err}
+use Rattle.settings.specs.Refusal.{number_of_refusal}
+use Rattle.settings.specs.declared.Refusal.{Refusal}
+use Rattle.image.specs.Opening.{opening_in, shown_in}
 use Rattle.image.specs.Opening.{row_of, holding_for, entry_for, entry_of, working_log, opening, answer_number, panel_of}
 use Rattle.image.specs.declared.Entry.{Entry}
 use Rattle.image.specs.declared.Head.{Head}
-use Rattle.image.specs.declared.Opening.{Opening}
-use Rattle.image.specs.declared.ImageAnswer.TheVariants.{Opened, Refused}
-use Rattle.image.specs.declared.Shown.{Shown}
-use Rattle.image.specs.declared.Shown.TheVariants.{Values}
+use Rattle.image.specs.ImageAnswers.{Opening}
+use Rattle.image.specs.ImageAnswers.{Opened, Refused}
+use Rattle.image.specs.PanelAnswer.{Shown}
+use Rattle.image.specs.PanelAnswer.{Values}
 use Rattle.image.specs.Workers.{Hub}
 use Rattle.settings.specs.Ranges.{max_capacity}
 
@@ -71,9 +75,15 @@ turned (Refuses j) o k n e f g =
     let r : o.answer ≡ Refused j = ap (λ (z : Opening). z.answer) e in
     ap Refuses (sym (g ∙ ap answer_number r))
 
-pub show_refused : (p : Parsed) (o : Opening) (k n : ℕ) → o ≡ opening p → o.answer ≡ Refused k → n ≡ answer_number o.answer → Shown.Refused n ≡ panel_of p
+-- the same of the code's own answer
+pub opening_refused : (p : Parsed) (r : Refusal) → opening_in (Err r) ≡ opening p → p ≡ Refuses (number_of_refusal r)
+unfolding answer_number
+opening_refused p r e = turned p (opening_in (Err r)) (number_of_refusal r) (number_of_refusal r) e refl refl
+
+-- the panel of a refused image
+pub panel_refused : (p : Parsed) (r : Refusal) → opening_in (Err r) ≡ opening p → shown_in (Err r) ≡ panel_of p
 unfolding panel_of
-show_refused p o k n e f g = sym (ap panel_of (turned p o k n e f g))
+panel_refused p r e = sym (ap panel_of (opening_refused p r e))
 
 pub show_values : (s : Settings) (brick : ℕ) (l : List ℕ) (o : Opening) (h : Head) (d : Entry) → Hub s brick l o h
     → Values (record { promise = h.promise; newest = (get_or o.log (h.count - 1) d).time }) ≡ panel_of (parse s brick l)

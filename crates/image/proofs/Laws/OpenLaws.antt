@@ -1,6 +1,6 @@
 -- The ways through an opening.
 use mathlib.Core.Path.{◌≡◌, refl, sym, ap, ap₂, ◌∙◌}
-use mathlib.Core.Bool.{Bool, true, false, ◌&&◌}
+use mathlib.Core.Bool.{Bool, true, false, ◌&&◌, and-false}
 use mathlib.Core.List.{List, [], ◌∷◌, ◌++◌, append-nil}
 use Prim.Native.Nat.{ℕ, zero, suc, ◌+◌, ◌-◌, ◌≤◌, ◌<◌}
 use native.Mathlib.Omega.{arith}
@@ -21,15 +21,22 @@ use Rattle.image.specs.Brick.{entry_count, time_at, mark_at, count_sound}
 use Rattle.byte_lists.specs.Each.{each}
 use Rattle.byte_lists.proofs.Laws.EachLaws.{each_at, each_all, each_not}
 use Rattle.image.specs.Image.{image_size}
+use Rattle.std.specs.Prelude.{Ok, Err}
+use Rattle.settings.specs.Refusal.{number_of_refusal}
+use Rattle.settings.specs.declared.Refusal.{Refusal}
+use Rattle.settings.specs.declared.Refusal.TheVariants.{BadSetting, BadLength, BadNumber, BadBrickSet, BadCheck, BadRecord, BadReading}
+use Rattle.settings.specs.declared.Refusal.TheVariants.{ClockSpent, Busy, BadMessage, StrayReply, BadLine, BadStripe, BadBlock, BlocksDisagree}
+use Rattle.image.specs.Parse.{Parsed}
+use Rattle.image.specs.Opening.{opening_in}
 use Rattle.image.specs.Parse.{image_block_at, count_in, promise_in, time_in, mark_in, brick_in, checked_at, is_image, open_refusal, Refuses, parse}
 use Rattle.image.proofs.Laws.ParseLaws.{range_of, count_in_lem, refusal_0, refusal_5, refusal_6, parse_opens, parse_refuses}
-use Rattle.image.specs.Opening.{row_of, blank, no_blank, entry_for, entry_of, working_log, opening, lending_refusal}
+use Rattle.image.specs.Opening.{row_of, blank, entry_for, entry_of, working_log, opening, lending_refusal}
 use Rattle.image.specs.Workers.{head_fits}
-use Rattle.image.specs.Workers.{check_after, slot_at, entry_at, Scanned}
+use Rattle.image.specs.Workers.{check_after, slot_at, entry_at, scan_refusal, scanned_log}
 use Rattle.image.proofs.Laws.FieldTestLaws.{tests_image, time_in_lem, mark_in_lem}
 use Rattle.image.specs.declared.Entry.{Entry}
-use Rattle.image.specs.declared.Opening.{Opening}
-use Rattle.image.specs.declared.ImageAnswer.TheVariants.{Opened, Refused}
+use Rattle.image.specs.ImageAnswers.{Opening}
+use Rattle.image.specs.ImageAnswers.{Opened}
 use Rattle.settings.specs.Ranges.{max_capacity}
 use Rattle.settings.specs.Refusal.{bad_check, bad_length, bad_number, bad_record, bad_setting}
 
@@ -63,10 +70,6 @@ lending_parse s brick l k e z = parse_refuses s brick l k (go (in_range s) (eqb 
     go true false c r = sym r
     go true true false r = sym r
     go true true true r = absurd (z r)
-
-pub open_lending : (s : Settings) (brick : ℕ) (l : List ℕ) (k : ℕ) (r : Opening) → k ≡ lending_refusal s brick (length l) → (k ≡ 0 → ⊥)
-    → r ≡ opening (Refuses k) → r ≡ opening (parse s brick l)
-open_lending s brick l k r e z q = q ∙ ap opening (sym (lending_parse s brick l k e z))
 
 -- all checks: the head's and the others
 checks_all : (l : List ℕ) (n : ℕ) → checked_at l 0 ≡ true → each (check_after l) n ≡ true → each (checked_at l) (n + 1) ≡ true
@@ -127,33 +130,61 @@ working s l c h =
         go (yes b) = rw (time_in_lem s l i b, mark_in_lem s l i b, count_in_lem s l) refl
         go (no b) = entry_past _ _ i _ (omega (arith, b)) ∙ sym (entry_past _ _ i (entry_count (brick_in s l)) (omega (arith, b, count_in_lem s l)))
 
+-- a scan that passes
+scan_fits : (size cap : ℕ) (l : List ℕ) (n : ℕ) → 0 ≡ scan_refusal size cap l n → (each (check_after l) cap ≡ true) × (each (slot_at size l n) cap ≡ true)
+unfolding scan_refusal first_refusal
+scan_fits size cap l n q = go (each (check_after l) cap) (each (slot_at size l n) cap) q
+  where
+    go : (a b : Bool) → 0 ≡ first_refusal (refuse_unless a bad_check ∷ refuse_unless b bad_record ∷ []) → (a ≡ true) × (b ≡ true)
+    go false b w = absurd (omega arith)
+    go true false w = absurd (omega arith)
+    go true true w = (refl, refl)
+
 head_count_high : (s : Settings) (brick : ℕ) (t : List ℕ) (n promise : ℕ) → head_fits s brick t n promise ≡ true → n ≤ s.capacity
 unfolding head_fits count_sound
 head_count_high s brick t n promise e = leb-true n s.capacity (and_right (leb 1 n) _ (and_left _ _ (and_left _ _ e)))
 
--- With t the head's block, holds what its check said, n and promise its fields, fits what its test said, and what the loop over the others gave:
-module _ (s : Settings) (brick : ℕ) (l t : List ℕ) (e : LentImage s brick (length l)) (first : t ≡ image_block_at l 0) (holds : Bool) (hold : holds ≡ checked t) where
-  -- 5: the head's check fails,
-  pub open_unchecked : (r : Opening) → holds ≡ false → r ≡ opening (Refuses bad_check) → r ≡ opening (parse s brick l)
+-- a refusal has a number
+pub nonzero : (r : Refusal) → number_of_refusal r ≡ 0 → ⊥
+nonzero BadSetting e = absurd (omega arith)
+nonzero BadLength e = absurd (omega arith)
+nonzero BadNumber e = absurd (omega arith)
+nonzero BadBrickSet e = absurd (omega arith)
+nonzero BadCheck e = absurd (omega arith)
+nonzero BadRecord e = absurd (omega arith)
+nonzero BadReading e = absurd (omega arith)
+nonzero ClockSpent e = absurd (omega arith)
+nonzero Busy e = absurd (omega arith)
+nonzero BadMessage e = absurd (omega arith)
+nonzero StrayReply e = absurd (omega arith)
+nonzero BadLine e = absurd (omega arith)
+nonzero BadStripe e = absurd (omega arith)
+nonzero BadBlock e = absurd (omega arith)
+nonzero BlocksDisagree e = absurd (omega arith)
+
+-- a refused parse, as the code gives it
+pub opening_err : (p : Parsed) (r : Refusal) → p ≡ Refuses (number_of_refusal r) → opening_in (Err r) ≡ opening p
+unfolding opening
+opening_err p r e = sym (ap opening e)
+
+pub lending_err : (s : Settings) (brick : ℕ) (l : List ℕ) (r : Refusal) → number_of_refusal r ≡ lending_refusal s brick (length l)
+    → opening_in (Err r) ≡ opening (parse s brick l)
+lending_err s brick l r e = opening_err (parse s brick l) r (lending_parse s brick l (number_of_refusal r) e (nonzero r))
+
+-- With t the head's block, n and promise its fields:
+module _ (s : Settings) (brick : ℕ) (l t : List ℕ) (e : LentImage s brick (length l)) (first : t ≡ image_block_at l 0) where
+  -- 5: the head's check fails
+  pub open_unchecked : checked t ≡ false → opening_in (Err BadCheck) ≡ opening (parse s brick l)
   unfolding checked_at
-  open_unchecked r f q =
-      q ∙ ap opening (sym (parse_refuses s brick l bad_check
-      (refusal_5 s brick l e.in-range e.long e.brick-low
-      (each_not (checked_at l) (s.capacity + 1) 0 (omega arith) (sym (ap checked first) ∙ sym hold ∙ f)))
-      (λ z. omega (arith, z))))
+  open_unchecked f =
+      opening_err (parse s brick l) BadCheck (parse_refuses s brick l bad_check
+      (refusal_5 s brick l e.in-range e.long e.brick-low (each_not (checked_at l) (s.capacity + 1) 0 (omega arith) (sym (ap checked first) ∙ f)))
+      (λ z. omega (arith, z)))
 
-  module _ (held : holds ≡ true) (n promise : ℕ) (en : n ≡ count_in t) (ep : promise ≡ promise_in t)
-      (checks fits : Bool) (log : List Entry) (scan : Scanned s.size s.capacity l n checks fits log) where
-    -- or another's
-    pub open_unchecked_later : (r : Opening) → checks ≡ false → r ≡ opening (Refuses bad_check) → r ≡ opening (parse s brick l)
-    open_unchecked_later r f q =
-        q ∙ ap opening (sym (parse_refuses s brick l bad_check
-        (refusal_5 s brick l e.in-range e.long e.brick-low (checks_fail l s.capacity (sym scan.all-checked ∙ f)))
-        (λ z. omega (arith, z))))
-
-    all_checks : checks ≡ true → each (checked_at l) (s.capacity + 1) ≡ true
+  module _ (held : checked t ≡ true) (n promise : ℕ) (en : n ≡ count_in t) (ep : promise ≡ promise_in t) where
+    all_checks : each (check_after l) s.capacity ≡ true → each (checked_at l) (s.capacity + 1) ≡ true
     unfolding checked_at
-    all_checks c = checks_all l s.capacity (sym (ap checked first) ∙ sym hold ∙ held) (sym scan.all-checked ∙ c)
+    all_checks c = checks_all l s.capacity (sym (ap checked first) ∙ held) c
 
     n_is : n ≡ count_in (image_block_at l 0)
     n_is = en ∙ ap count_in first
@@ -161,46 +192,56 @@ module _ (s : Settings) (brick : ℕ) (l t : List ℕ) (e : LentImage s brick (l
     promise_is : promise ≡ promise_in (image_block_at l 0)
     promise_is = ep ∙ ap promise_in first
 
-    tested : (head : Bool) → head ≡ head_fits s brick t n promise → checks ≡ true → head && fits ≡ is_image s brick l
-    tested head eh c =
+    tested : each (check_after l) s.capacity ≡ true → head_fits s brick t n promise && each (slot_at s.size l n) s.capacity ≡ is_image s brick l
+    tested c =
         ap₂ (λ (a b : Bool). a && b)
-        (eh ∙ ap (λ (b : List ℕ). head_fits s brick b n promise) first
+        (ap (λ (b : List ℕ). head_fits s brick b n promise) first
         ∙ ap₂ (λ (a b : ℕ). head_fits s brick (image_block_at l 0) a b) n_is promise_is)
-        (scan.all_fit c ∙ ap (λ (k : ℕ). each (slot_at s.size l k) s.capacity) n_is)
+        (ap (λ (k : ℕ). each (slot_at s.size l k) s.capacity) n_is)
         ∙ tests_image s brick l e.range e.long (all_checks c)
 
-    -- 6: the head or another block is not as it should be
-    pub open_unfit : (r : Opening) (head : Bool) → head ≡ head_fits s brick t n promise → checks ≡ true → head && fits ≡ false
-        → r ≡ opening (Refuses bad_record) → r ≡ opening (parse s brick l)
-    open_unfit r head eh c f q =
-        q ∙ ap opening (sym (parse_refuses s brick l bad_record
-        (refusal_6 s brick l e.in-range e.long e.brick-low (all_checks c) (sym (tested head eh c) ∙ f))
-        (λ z. omega (arith, z))))
-
-    -- it opens
-    pub open_done : (head : Bool) → head ≡ head_fits s brick t n promise → checks ≡ true → head && fits ≡ true
-        → record { answer = Opened (record { count = n; promise = promise }); log = log } ≡ opening (parse s brick l)
-    unfolding opening brick_in
-    open_done head eh c hf =
-        let h = and_left head fits hf in
-        let few : count_in (image_block_at l 0) ≤ s.capacity =
-        omega (arith, n_is, head_count_high s brick t n promise (sym eh ∙ h)) in
-        let lg : log ≡ working_log (brick_in s l) =
-        scan.the-log c
-        ∙ ap (λ (k : ℕ). row_of (entry_at l k) s.capacity ++ replicate (max_capacity - s.capacity) blank) n_is
-        ∙ working s l e.range.capacity-high few in
-        let cn : n ≡ entry_count (brick_in s l) = n_is ∙ sym (count_in_lem s l) in
-        made cn promise_is lg
-        ∙ ap opening (sym (parse_opens s brick l
-        (refusal_0 s brick l e.in-range e.long e.brick-low (all_checks c) (sym (tested head eh c) ∙ hf))))
+    -- 5 or 6: another block is refused
+    pub open_scan : (r : Refusal) → number_of_refusal r ≡ scan_refusal s.size s.capacity l n → opening_in (Err r) ≡ opening (parse s brick l)
+    unfolding scan_refusal first_refusal
+    open_scan r q =
+        opening_err (parse s brick l) r (parse_refuses s brick l (number_of_refusal r)
+        (go (each (check_after l) s.capacity) (each (slot_at s.size l n) s.capacity) refl refl q) (nonzero r))
       where
-        made : n ≡ entry_count (brick_in s l) → promise ≡ promise_in (image_block_at l 0) → log ≡ working_log (brick_in s l)
-            → ◌≡◌ {A = Opening} (record { answer = Opened (record { count = n; promise = promise }); log = log })
-            (record { answer = Opened (record { count = entry_count (brick_in s l); promise = promise_in (image_block_at l 0) }); log = working_log (brick_in s l) })
-        made a b d = λ i. record { answer = Opened (record { count = a i; promise = b i }); log = d i }
+        go : (a b : Bool) → each (check_after l) s.capacity ≡ a → each (slot_at s.size l n) s.capacity ≡ b
+            → number_of_refusal r ≡ first_refusal (refuse_unless a bad_check ∷ refuse_unless b bad_record ∷ []) → open_refusal s brick l ≡ number_of_refusal r
+        go false b ea eb w = refusal_5 s brick l e.in-range e.long e.brick-low (checks_fail l s.capacity ea) ∙ sym w
+        go true false ea eb w =
+            refusal_6 s brick l e.in-range e.long e.brick-low (all_checks ea)
+            (sym (tested ea) ∙ ap (λ (b : Bool). head_fits s brick t n promise && b) eb ∙ and-false (head_fits s brick t n promise)) ∙ sym w
+        go true true ea eb w = absurd (nonzero r w)
 
--- a refusal is made
-pub refused_made : (number : ℕ) (b : Entry) → b ≡ entry_for 0 false 0 0
-    → ◌≡◌ {A = Opening} (record { answer = Refused number; log = replicate max_capacity b }) (opening (Refuses number))
-unfolding opening row_of no_blank entry_for
-refused_made number b e = λ i. record { answer = Refused number; log = replicate max_capacity (e i) }
+    module _ (passed : 0 ≡ scan_refusal s.size s.capacity l n) where
+      -- 6: the head is not as it should be
+      pub open_unfit : head_fits s brick t n promise ≡ false → opening_in (Err BadRecord) ≡ opening (parse s brick l)
+      open_unfit f =
+          let c = scan_fits s.size s.capacity l n passed in
+          opening_err (parse s brick l) BadRecord (parse_refuses s brick l bad_record
+          (refusal_6 s brick l e.in-range e.long e.brick-low (all_checks c.0)
+          (sym (tested c.0) ∙ ap (λ (b : Bool). b && each (slot_at s.size l n) s.capacity) f))
+          (λ z. omega (arith, z)))
+
+      -- it opens
+      pub open_done : (log : List Entry) → log ≡ scanned_log s.capacity l n → head_fits s brick t n promise ≡ true
+          → opening_in (Ok (record { head = record { count = n; promise = promise }; log = log })) ≡ opening (parse s brick l)
+      unfolding opening brick_in
+      open_done log lg h =
+          let c = scan_fits s.size s.capacity l n passed in
+          let few : count_in (image_block_at l 0) ≤ s.capacity = omega (arith, n_is, head_count_high s brick t n promise h) in
+          let lg' : log ≡ working_log (brick_in s l) =
+          lg
+          ∙ ap (λ (k : ℕ). row_of (entry_at l k) s.capacity ++ replicate (max_capacity - s.capacity) blank) n_is
+          ∙ working s l e.range.capacity-high few in
+          let cn : n ≡ entry_count (brick_in s l) = n_is ∙ sym (count_in_lem s l) in
+          made cn promise_is lg'
+          ∙ ap opening (sym (parse_opens s brick l
+          (refusal_0 s brick l e.in-range e.long e.brick-low (all_checks c.0) (sym (tested c.0) ∙ ap₂ (λ (a b : Bool). a && b) h c.1))))
+        where
+          made : n ≡ entry_count (brick_in s l) → promise ≡ promise_in (image_block_at l 0) → log ≡ working_log (brick_in s l)
+              → ◌≡◌ {A = Opening} (record { answer = Opened (record { count = n; promise = promise }); log = log })
+              (record { answer = Opened (record { count = entry_count (brick_in s l); promise = promise_in (image_block_at l 0) }); log = working_log (brick_in s l) })
+          made a b d = λ i. record { answer = Opened (record { count = a i; promise = b i }); log = d i }

@@ -2,40 +2,36 @@
 use mathlib.Core.Path.{◌≡◌, refl, sym, ap, ap₂, ◌∙◌}
 use mathlib.Core.Bool.{Bool, true, false, ◌&&◌}
 use mathlib.Core.List.{List, [], ◌∷◌, ◌++◌, append_assoc}
-use Prim.Native.Nat.{ℕ, zero, suc, ◌+◌, ◌-◌, ◌*◌, ◌≤◌, ◌<◌}
+use Prim.Native.Nat.{ℕ, zero, suc, ◌+◌, ◌-◌, ◌*◌, ◌<◌}
 use native.Mathlib.Omega.{arith}
 use native.Mathlib.Numerals.{add-one}
-use lib.ListN.{length, take, drop, set, replicate}
+use lib.ListN.{take, drop, set, replicate}
 use lib.Seq.{set_at}
 use Rattle.image_block.specs.Block.{checked}
 use Rattle.byte_lists.specs.Each.{each}
 use Rattle.byte_lists.proofs.Laws.EachLaws.{each_none, each_more, each_not}
-use Rattle.image.proofs.Laws.ImageLaws.{block_length}
 use Rattle.image.specs.Parse.{image_block_at, checked_at, time_in, mark_in}
 use Rattle.image.specs.Opening.{row_of, blank, entry_for}
 use Rattle.image.specs.Workers.{rises, slot_fits}
 use Rattle.image.specs.declared.Entry.{Entry}
 use Rattle.image.proofs.Laws.HubLaws.{row_length}
-use Rattle.image.specs.Workers.{check_after, slot_at, entry_at, Scanned}
+use Rattle.image.specs.Workers.{check_after, slot_at, entry_at, scan_refusal}
+use Rattle.settings.specs.Refusal.{first_refusal, passed, bad_check, bad_record}
 use Rattle.image_block.specs.Block.{block_bytes}
 use Rattle.settings.specs.Ranges.{max_capacity}
 
 -- what holds before block i + 1 is read
-pub record Scanning (size cap : ℕ) (l : List ℕ) (n : ℕ) (fits : Bool) (last i at : ℕ) (log : List Entry) : Type 0 where
-  pub low : i ≤ cap
-  pub place : at ≡ block_bytes * (i + 1)
+pub record Scanning (size : ℕ) (l : List ℕ) (n : ℕ) (fits : Bool) (last i : ℕ) (log : List Entry) : Type 0 where
   pub so-checked : each (check_after l) i ≡ true
   pub so-fit : fits ≡ each (slot_at size l n) i
   pub before : 0 < i → last ≡ time_in (image_block_at l i)
   pub logged : log ≡ row_of (entry_at l n) i ++ replicate (max_capacity - i) blank
 
-pub scanning_none : (size cap : ℕ) (l : List ℕ) (n : ℕ) (b : Entry) (log : List Entry) → b ≡ entry_for 0 false 0 0 → log ≡ replicate max_capacity b
-    → Scanning size cap l n true 0 0 block_bytes log
+pub scanning_none : (size : ℕ) (l : List ℕ) (n : ℕ) (b : Entry) (log : List Entry) → b ≡ entry_for 0 false 0 0 → log ≡ replicate max_capacity b
+    → Scanning size l n true 0 0 log
 unfolding row_of entry_for
-scanning_none size cap l n b log e k =
+scanning_none size l n b log e k =
     record {
-      low = omega arith;
-      place = refl;
       so-checked = each_none (check_after l);
       so-fit = sym (each_none (slot_at size l n));
       before = λ h. absurd (omega (arith, h));
@@ -65,48 +61,34 @@ unfolding slot_at slot_fits rises
 slot_last size l n zero last b = refl
 slot_last size l n (suc i) last b = ap (λ (x : ℕ). slot_fits size (image_block_at l (suc i + 1)) (time_in (image_block_at l (suc i + 1))) (suc i) n x) (b (omega arith))
 
-module _ (size cap : ℕ) (l : List ℕ) (n : ℕ) (fits : Bool) (last i at : ℕ) (log : List Entry) (most : cap ≤ max_capacity) (h : i < cap)
-    (r : Scanning size cap l n fits last i at log) where
-  pub scanning_more : (t : List ℕ) (holds fit fits' mark : Bool) (time : ℕ) (entry : Entry) → t ≡ image_block_at l (i + 1) → holds ≡ checked t → holds ≡ true
-      → time ≡ time_in t → fit ≡ slot_fits size t time i n last → fits' ≡ fits && fit → mark ≡ mark_in t → entry ≡ entry_for time mark i n
-      → Scanning size cap l n fits' time (i + 1) (at + block_bytes) (set log i entry)
+module _ (size : ℕ) (l : List ℕ) (n : ℕ) (fits : Bool) (last i : ℕ) (log : List Entry) (h : i < max_capacity) (r : Scanning size l n fits last i log) where
+  pub scanning_more : (t : List ℕ) (holds fits' mark : Bool) (time : ℕ) (entry : Entry) → t ≡ image_block_at l (i + 1) → holds ≡ checked t → holds ≡ true
+      → time ≡ time_in t → fits' ≡ fits && slot_fits size t time i n last → mark ≡ mark_in t → entry ≡ entry_for time mark i n
+      → Scanning size l n fits' time (i + 1) (set log i entry)
   unfolding check_after checked_at entry_at
-  scanning_more t holds fit fits' mark time entry et eh h1 em ef eb ek ee =
+  scanning_more t holds fits' mark time entry et eh h1 em ef ek ee =
       let tm : time ≡ time_in (image_block_at l (i + 1)) = em ∙ ap time_in et in
-      let fit_is : fit ≡ slot_at size l n i =
-      ef ∙ ap₂ (λ (a : List ℕ) (b : ℕ). slot_fits size a b i n last) et tm ∙ slot_last size l n i last r.before in
+      let fit_is : slot_fits size t time i n last ≡ slot_at size l n i =
+      ap₂ (λ (a : List ℕ) (b : ℕ). slot_fits size a b i n last) et tm ∙ slot_last size l n i last r.before in
       record {
-        low = omega arith;
-        place = omega (arith, r.place);
         so-checked = each_more (check_after l) i ∙ rw r.so-checked (sym (ap checked et) ∙ sym eh ∙ h1);
-        so-fit = eb ∙ ap₂ (λ (a b : Bool). a && b) r.so-fit fit_is ∙ sym (each_more (slot_at size l n) i);
+        so-fit = ef ∙ ap₂ (λ (a b : Bool). a && b) r.so-fit fit_is ∙ sym (each_more (slot_at size l n) i);
         before = λ z. tm;
         logged = ap (λ (x : Entry). set log i x) (ee ∙ ap₂ (λ (k : ℕ) (b : Bool). entry_for k b i n) tm (ek ∙ ap mark_in et))
             ∙ row_more (entry_at l n) i log (omega arith) r.logged;
       }
 
-  pub scan_unchecked : (t : List ℕ) (holds fits' : Bool) (log' : List Entry) → t ≡ image_block_at l (i + 1) → holds ≡ checked t → holds ≡ false
-      → Scanned size cap l n false fits' log'
-  unfolding check_after checked_at
-  scan_unchecked t holds fits' log' et eh h0 =
-      record {
-        all-checked = sym (each_not (check_after l) cap i h (sym (ap checked et) ∙ sym eh ∙ h0));
-        all_fit = λ z. absurd (clash z);
-        the-log = λ z. absurd (clash z);
-      }
-    where
-      clash : false ≡ true → ⊥
-      clash z = let w : ◌≡◌ {A = ℕ} 0 1 = cc in omega arith
+  -- 5: the check of a block fails
+  pub scan_unchecked : (cap : ℕ) (t : List ℕ) (holds : Bool) → i < cap → t ≡ image_block_at l (i + 1) → holds ≡ checked t → holds ≡ false
+      → bad_check ≡ scan_refusal size cap l n
+  unfolding check_after checked_at scan_refusal first_refusal
+  scan_unchecked cap t holds b et eh h0 = rw (each_not (check_after l) cap i b (sym (ap checked et) ∙ sym eh ∙ h0)) refl
 
-pub scanned_all : (size cap : ℕ) (l : List ℕ) (n : ℕ) (fits : Bool) (last i at : ℕ) (log : List Entry) → cap ≤ i
-    → Scanning size cap l n fits last i at log → Scanned size cap l n true fits log
-scanned_all size cap l n fits last i at log h r =
-    let e : i ≡ cap = omega (arith, r.low) in
-    record {
-      all-checked = sym (ap (λ (k : ℕ). each (check_after l) k) (sym e) ∙ r.so-checked);
-      all_fit = λ z. r.so-fit ∙ ap (λ (k : ℕ). each (slot_at size l n) k) e;
-      the-log = λ z. r.logged ∙ ap (λ (k : ℕ). row_of (entry_at l n) k ++ replicate (max_capacity - k) blank) e;
-    }
+-- 6: all checks hold, and a block is not as it should be
+pub scan_unfit : (size cap : ℕ) (l : List ℕ) (n last : ℕ) (log : List Entry) (fits : Bool) → fits ≡ false → Scanning size l n fits last cap log → bad_record ≡ scan_refusal size cap l n
+unfolding scan_refusal first_refusal
+scan_unfit size cap l n last log fits f r = rw (r.so-checked, sym r.so-fit ∙ f) refl
 
-pub part_length : (l : List ℕ) (at k n : ℕ) → length l ≡ block_bytes * n → at ≡ block_bytes * k → k < n → length (take (at + block_bytes - at) (drop at l)) ≡ block_bytes
-part_length l at k n h e b = ap length (part_is l at k e) ∙ block_length l n k h b
+pub scan_passed : (size cap : ℕ) (l : List ℕ) (n last : ℕ) (log : List Entry) (fits : Bool) → fits ≡ true → Scanning size l n fits last cap log → passed ≡ scan_refusal size cap l n
+unfolding scan_refusal first_refusal
+scan_passed size cap l n last log fits f r = rw (r.so-checked, sym r.so-fit ∙ f) refl

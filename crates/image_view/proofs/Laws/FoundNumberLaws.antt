@@ -11,7 +11,7 @@ use Rattle.image.specs.Parse.{Parsed, Opens, Refuses, parse, open_refusal}
 use Rattle.image.specs.Opening.{holding_for}
 use Rattle.image.proofs.Laws.ShownNumberLaws.{parsed_number, parsed_number_lem}
 use Rattle.image_view.specs.View.{found_of, count_of, counted_number}
-use Rattle.image_view.specs.declared.Found.TheVariants.{At, Refused}
+use Rattle.image_view.specs.View.{At, Refused}
 use Rattle.image_view.specs.View.{found_number, place_number}
 
 pub found_number_lem : (p : Parsed) (place : ℕ) → found_number (found_of p place) ≡ place_number p place

@@ -14,18 +14,19 @@ use Rattle.image.specs.Image.{image_size}
 use Rattle.image.specs.Parse.{Parsed, Opens, Refuses, parse, image_block_at, count_in, time_in, mark_in}
 use Rattle.image.proofs.Laws.ParseLaws.{count_in_lem, opened}
 use Rattle.image.proofs.Laws.FieldTestLaws.{time_in_lem, mark_in_lem}
-use Rattle.image.specs.Opening.{opening, answer_number, holding_for}
+use Rattle.std.specs.Prelude.{Err}
+use Rattle.settings.specs.Refusal.{number_of_refusal}
+use Rattle.settings.specs.declared.Refusal.{Refusal}
+use Rattle.image.specs.Opening.{opening, opening_in, holding_for}
 use Rattle.image.specs.Workers.{Hub, ImageOpened}
-use Rattle.image.proofs.Laws.HubLaws.{turned}
-use Rattle.image.specs.declared.Opening.{Opening}
+use Rattle.image.proofs.Laws.HubLaws.{opening_refused}
+use Rattle.image.specs.ImageAnswers.{Opening}
 use Rattle.image.specs.declared.Head.{Head}
+use Rattle.image.specs.declared.Holding.{Holding}
 use Rattle.image.specs.declared.Holding.TheVariants.{Held, Same}
-use Rattle.image.specs.declared.ImageAnswer.TheVariants.{Refused as Failed}
 use Rattle.image_view.specs.View.{count_of, found_of, found_at, found_by, found_in, view_of}
-use Rattle.image_view.specs.declared.Counted.{Counted}
-use Rattle.image_view.specs.declared.Counted.TheVariants.{Entries}
-use Rattle.image_view.specs.declared.Found.{Found}
-use Rattle.image_view.specs.declared.Found.TheVariants.{At, Refused}
+use Rattle.image_view.specs.ViewCount.{Counted, Entries}
+use Rattle.image_view.specs.View.{At, Refused}
 use Rattle.image_block.specs.Block.{block_bytes}
 use Rattle.settings.specs.Refusal.{bad_length, bad_number}
 
@@ -41,37 +42,29 @@ module _ (l : List ℕ) (n place : ℕ) where
   -- and the entry, by the block that stands there
   module _ (t : List ℕ) (time : ℕ) (mark : Bool) (h : n < length l / block_bytes) (k : place < n) (is_Block : t ≡ image_block_at l (place + 1))
       (is-time : time ≡ time_in t) (is-mark : mark ≡ mark_in t) where
-    there : At (record { time = time; holding = holding_for mark place }) ≡ found_at l n place
+    pub at_there : (holding : Holding) → holding ≡ holding_for mark place → At (record { time = time; holding = holding }) ≡ found_at l n place
     unfolding found_at
-    there =
+    at_there holding e =
         rw (lt-leb (length l / block_bytes) n h, lt-leb n place k)
-        (ap₂ (λ (x : ℕ) (m : Bool). At (record { time = x; holding = holding_for m place })) (is-time ∙ ap time_in is_Block) (is-mark ∙ ap mark_in is_Block))
+        (ap₂ (λ (x : ℕ) (g : Holding). At (record { time = x; holding = g })) (is-time ∙ ap time_in is_Block)
+        (e ∙ ap (λ (m : Bool). holding_for m place) (is-mark ∙ ap mark_in is_Block)))
 
-    pub at_mark : mark ≡ true → At (record { time = time; holding = Same }) ≡ found_at l n place
-    unfolding holding_for
-    at_mark e = rw e at there
+pub same_of : (mark : Bool) (place : ℕ) → mark ≡ true → Same ≡ holding_for mark place
+unfolding holding_for
+same_of mark place e = rw e refl
 
-    pub at_held : mark ≡ false → At (record { time = time; holding = Held (place + 1) }) ≡ found_at l n place
-    unfolding holding_for
-    at_held e = rw e at there
+pub held_of : (mark : Bool) (place : ℕ) → mark ≡ false → Held (place + 1) ≡ holding_for mark place
+unfolding holding_for
+held_of mark place e = rw e refl
 
 -- what opening gave
-pub counted_refused : (p : Parsed) (o : Opening) (k n : ℕ) → o ≡ opening p → o.answer ≡ Failed k → n ≡ answer_number o.answer → Counted.Refused n ≡ count_of p
+pub counted_refused : (p : Parsed) (r : Refusal) → opening_in (Err r) ≡ opening p → Counted.Refused (number_of_refusal r) ≡ count_of p
 unfolding count_of
-counted_refused p o k n e f g = sym (ap count_of (turned p o k n e f g))
+counted_refused p r e = sym (ap count_of (opening_refused p r e))
 
 pub counted_there : (s : Settings) (brick : ℕ) (l : List ℕ) (o : Opening) (h : Head) → Hub s brick l o h → Entries h.count ≡ count_of (parse s brick l)
 unfolding count_of
 counted_there s brick l o h u = ap Entries u.counts ∙ sym (ap count_of u.is)
-
--- and the entry by it
-pub by_entries : (l : List ℕ) (c : Counted) (n place : ℕ) (r : Found) → c ≡ Entries n → r ≡ found_at l n place → r ≡ found_by l c place
-unfolding found_by
-by_entries l c n place r e h = h ∙ sym (ap (λ (d : Counted). found_by l d place) e)
-
-pub by_refused : (l : List ℕ) (c : Counted) (number place : ℕ) → c ≡ Counted.Refused number → Refused number ≡ found_by l c place
-unfolding found_by
-by_refused l c number place e = sym (ap (λ (d : Counted). found_by l d place) e)
 
 -- The entries of a view are those of the brick that its image holds.
 pub view_entry : (s : Settings) (brick : ℕ) (image : Bor (List ℕ)) (place : ℕ) → found_in (view_of s brick image) place ≡ found_of (parse s brick image.now) place

@@ -1,20 +1,18 @@
 -- An image block by block: a block put, blocks cleared, blocks moved down.
 use mathlib.Core.Path.{◌≡◌, refl, sym, ap, ap₂, subst, ◌∙◌}
 use mathlib.Core.Bool.{Bool, true, false, cond, ◌&&◌}
-use mathlib.Core.List.{List, ◌++◌, append-nil}
+use mathlib.Core.List.{List}
 use Prim.Native.Nat.{ℕ, zero, suc, ◌+◌, ◌-◌, ◌*◌, ◌≤◌, ◌<◌}
 use native.Mathlib.Omega.{arith}
 use native.Mathlib.Decide.{ℕ_discrete}
 use lib.Dec.{leb, ltb, eqb}
-use lib.ListN.{length, take, drop, get_or, set, length-take, length-drop}
-use native.Mathlib.Nat.{zero-add}
+use lib.ListN.{length, take, drop, length-take, length-drop}
 use native.Mathlib.Numerals.{add-one}
 use borrow.Author.Tests.{lt-ltb, le-ltb, le-leb, lt-leb, eq-eqb, ne_eqb, ltb-true, ltb-false, leb-true, leb-false}
 use Rattle.image_block.specs.Block.{entry_block, unused_block}
 use Rattle.byte_lists.specs.Lists.{put, zeros}
 use Rattle.byte_lists.proofs.Laws.PutLaws.{put_length, put_behind}
-use Rattle.byte_lists.proofs.Laws.PutLaws.{Pasted, pasted_all, pasted_more}
-use Rattle.byte_lists.proofs.Laws.ZeroLaws.{zeros_drop, zeros_take, zeros_length}
+use Rattle.byte_lists.proofs.Laws.ZeroLaws.{zeros_take}
 use Rattle.image_block.proofs.Laws.LayoutLaws.{unused_length}
 use Rattle.byte_lists.specs.Lists.{stacked}
 use Rattle.image.proofs.Laws.ImageLaws.{Even, stacked_at, stacked_length, stacked_of, stacked_ext, stacked_put, block_length}
@@ -150,9 +148,6 @@ clearing_more l from i image b after h eb ea r =
           ∙ ap (λ (j : ℕ). cleared from j l) n;
     }
 
-pub cleared_all : (l : List ℕ) (from to i : ℕ) (image : List ℕ) → i ≡ to → Clearing l from i image → image ≡ cleared from (to - from) l
-cleared_all l from to i image e r = r.is ∙ ap (λ (k : ℕ). cleared from (k - from) l) e
-
 -- the entries above place `from` moved down by d
 unfoldable pub shifted_of : (ℕ → List ℕ) → (from d kept : ℕ) → ℕ → List ℕ
 shifted_of g from d kept k = cond (leb (from + 1) k && leb k (from + kept)) (g (k + d)) (g k)
@@ -243,33 +238,6 @@ shifting_more l from d i image b after h eb ea r =
       is = ea ∙ ap₂ (λ (x y : List ℕ). put (block_bytes * (from + i + 1)) x y) v r.is ∙ ap (λ (k : ℕ). shifted from d k l) (sym (add-one i));
     }
 
-pub shifted_all : (l : List ℕ) (from d kept i : ℕ) (image : List ℕ) → i ≡ kept → Shifting l from d i image → image ≡ shifted from d kept l
-shifted_all l from d kept i image e r = r.is ∙ ap (λ (k : ℕ). shifted from d k l) e
-
--- a block that was built is what is placed
-pub put_as : (at : ℕ) (b c l after : List ℕ) → after ≡ put at b l → b ≡ c → after ≡ put at c l
-put_as at b c l after e f = e ∙ ap (λ (x : List ℕ). put at x l) f
-
--- a copy of a whole part
-pub copied_all : (part b : List ℕ) (i : ℕ) → length part ≡ block_bytes → block_bytes ≤ i → Pasted (zeros block_bytes) part 0 i b → b ≡ part
-unfolding put zeros
-copied_all part b i n h p =
-    pasted_all (zeros block_bytes) part b 0 i (omega arith) p
-    ∙ rw (zeros_drop block_bytes (0 + length part) (omega arith)) (ap (λ (k : ℕ). part ++ zeros k) (omega_zero n) ∙ append-zeros part)
-  where
-    omega_zero : length part ≡ block_bytes → block_bytes - (0 + length part) ≡ 0
-    omega_zero e = omega arith
-
-    append-zeros : (l : List ℕ) → l ++ zeros 0 ≡ l
-    append-zeros l = append-nil l
-
--- the part of the image that is copied
-pub copied_more : (d s l : List ℕ) (i : ℕ) → i < length s → Pasted d s 0 i l → Pasted d s 0 (i + 1) (set l i (get_or s i 0))
-copied_more d s l i h p = subst (λ (k : ℕ). Pasted d s 0 (i + 1) (set l k (get_or s i 0))) (zero-add i) (pasted_more d s l 0 i h p)
-
 -- a zero block taken from zeros
 pub zero_entry : (at size : ℕ) (l after : List ℕ) → size ≤ max_size → after ≡ put at (entry_block 0 (take size (zeros max_size))) l → after ≡ put at (entry_block 0 (zeros size)) l
 zero_entry at size l after h e = e ∙ ap (λ (b : List ℕ). put at (entry_block 0 b) l) (zeros_take max_size size h)
-
-pub zero_length : (size : ℕ) → size ≤ max_size → length (take size (zeros max_size)) ≡ size
-zero_length size h = ap length (zeros_take max_size size h) ∙ zeros_length size

@@ -9,13 +9,9 @@ use lib.Bits.{bit_xor}
 use lib.ListN.{length, get_or, set, replicate, get_or-replicate}
 use Rattle.byte_lists.proofs.Laws.TabulateLaws.{Filled, filled_more, filled_keep}
 use Rattle.gf256.specs.Product.{plus, product, inverse}
-use Rattle.gf256.specs.Tables.{IsPowers, IsLogs}
-use Rattle.gf256.proofs.Laws.FieldLaws.{one_product}
-use Rattle.gf256.proofs.Laws.XorLaws.{plus_byte}
 use Rattle.interpolate.specs.Bytes.{Byte, byte, byte_field}
 use Rattle.interpolate.proofs.Laws.ByteLaws.{byte_small, add_is, mul_is, inv_is, bytes_are_a_field}
-use Rattle.interpolate.specs.Values.{PointSet}
-use Rattle.interpolate.specs.Workers.{points_of, numerator, denominator, weight, Differences, Shares, PointsReady}
+use Rattle.interpolate.specs.Workers.{points_of, numerator, denominator, weight, Differences, PointsReady}
 use Rattle.poly.proofs.Laws.BasisPartLaws.{roots_to_step, others_to_skip, others_to_step, basis_parts}
 use Rattle.poly.specs.Polynomial.{sub, roots_to, others_to}
 use Rattle.settings.specs.Ranges.{max_bricks}
@@ -30,25 +26,10 @@ pub differences_none : (points : List ℕ) → length points ≤ max_bricks → 
 unfolding denominator others_to
 differences_none points h = record { entry = λ i u. get_or-replicate max_bricks i 1 0 (omega arith) }
 
--- inverses of the products over all points are the shares
-pub shares_done : (points products shares : List ℕ) (k : ℕ) → Differences points k products → length points ≤ k → k ≤ length points
-    → ((i : ℕ) → i < length points → get_or shares i 0 ≡ inverse (get_or products i 0)) → Shares points shares
-shares_done points products shares k d a b e =
-    record { entry = λ i h. e i h ∙ ap inverse (d.entry i h ∙ ap (denominator points i) (omega arith)) }
-
--- what the inner functions are lent, from the two tables and the shares
-pub points_ready : (powers logs points shares : List ℕ) → IsPowers powers → IsLogs logs → PointSet points → length shares ≡ max_bricks
-    → Shares points shares → PointsReady powers logs points shares
-points_ready powers logs points shares p l s n e =
-    record { powers-right = p; logs-right = l; set = s; size = omega (arith, n, s.few); shares-right = e }
-
 -- no point
-pub numerator_none : (points : List ℕ) (x : ℕ) → length points ≡ 0 → 1 ≡ numerator points x (length points)
+pub numerator_none : (points : List ℕ) (x : ℕ) → 1 ≡ numerator points x 0
 unfolding numerator roots_to
-numerator_none points x e = rw e refl
-
-pub numerator_all : (points : List ℕ) (x k s : ℕ) → s ≡ numerator points x k → length points ≤ k → k ≤ length points → s ≡ numerator points x (length points)
-numerator_all points x k s e a b = e ∙ ap (numerator points x) (omega arith)
+numerator_none points x = refl
 
 module _ (points : List ℕ) (small : (k : ℕ) → get_or points k 0 < 256) where
   -- another point
@@ -59,12 +40,6 @@ module _ (points : List ℕ) (small : (k : ℕ) → get_or points k 0 < 256) whe
       ∙ sym (mul_is (roots_to byte_field k (points_of points) (byte x)) (sub byte_field (byte x) (points_of points k)))
       ∙ ap (λ (b : Byte). b.0) (sym (roots_to_step byte_field k (points_of points) (byte x)))
       ∙ ap (λ (j : ℕ). (roots_to byte_field j (points_of points) (byte x)).0) (sym (add-one k))
-
-  pub numerator_first : (x : ℕ) → x < 256 → bit_xor x (get_or points 0 0) ≡ numerator points x 1
-  unfolding numerator roots_to
-  numerator_first x hx =
-      numerator_more x 0 1 (bit_xor x (get_or points 0 0)) hx refl
-      (unfold plus in sym (one_product (plus x (get_or points 0 0)) (plus_byte x (get_or points 0 0) hx (small 0))))
 
   -- One turn over the points' products of differences: one more factor for point i, or none where it is point k.
   pub difference_taken : (k i r : ℕ) (old out next : List ℕ) → Differences points k old → Filled (λ (j : ℕ). denominator points j (k + 1)) old out i
@@ -93,11 +68,11 @@ module _ (points : List ℕ) (small : (k : ℕ) → get_or points k 0 < 256) whe
           ∙ ap (λ (l : ℕ). (others_to byte_field l (points_of points) i (points_of points i)).0) (sym (add-one k))
 
   -- The weight of point i at x by its parts, as the code multiplies them.
-  pub weight_by_parts : (powers logs shares : List ℕ) (top x i own share r : ℕ) → PointsReady powers logs points shares → x < 256
+  pub weight_by_parts : (shares : List ℕ) (top x i own share r : ℕ) → PointsReady points shares → x < 256
       → ((k : ℕ) → k < length points → get_or points k 0 ≡ x → ⊥) → top ≡ numerator points x (length points) → i < length points
       → own ≡ inverse (bit_xor x (get_or points i 0)) → share ≡ product own (get_or shares i 0) → r ≡ product top share → r ≡ weight points i x
   unfolding weight numerator denominator
-  weight_by_parts powers logs shares top x i own share r ready hx nx et h eo es er =
+  weight_by_parts shares top x i own share r ready hx nx et h eo es er =
       er ∙ ap₂ product et
       (es ∙ ap₂ product (eo ∙ ap inverse (sym (difference_is x (get_or points i 0) hx (small i))) ∙ sym (inv_is down))
       (ready.shares-right.entry i h ∙ sym (inv_is others)) ∙ sym (mul_is (byte_field.inv down) (byte_field.inv others)))

@@ -10,11 +10,10 @@ use lib.Seq.{get_or-take, get_or-drop}
 use Rattle.gf256.specs.Product.{plus, product}
 use Rattle.interpolate.specs.Bytes.{Byte, byte, byte_field}
 use Rattle.interpolate.proofs.Laws.ByteLaws.{byte_small, add_is, mul_is, bytes_are_a_field}
-use Rattle.interpolate.proofs.Laws.FirstPlaceLaws.{place_is, place_not}
-use Rattle.interpolate.specs.Workers.{first_place, scaled, points_of, weight}
+use Rattle.interpolate.specs.Workers.{scaled, points_of, weight}
 use Rattle.byte_lists.specs.Lists.{tabulate}
 use Rattle.byte_lists.proofs.Laws.StackLaws.{part_length}
-use Rattle.byte_lists.proofs.Laws.TabulateLaws.{length_tabulate, get_d_tabulate, tabulate_by, tabulate_ext}
+use Rattle.byte_lists.proofs.Laws.TabulateLaws.{length_tabulate, get_d_tabulate, tabulate_by, tabulate_ext, filled_more, filled_all}
 use Rattle.interpolate.specs.Values.{byte_at, value_at, block_at, PointSet}
 use Rattle.poly.proofs.Laws.InterpolationLaws.{interpolated_at}
 use Rattle.poly.specs.Polynomial.{Different, sum, basis, interpolated}
@@ -100,15 +99,15 @@ row_copy points size blocks from x k sp sb d h e ef ns =
     small_at : (k p : ℕ) → byte_at size blocks k p < 256
     small_at k p = unfold byte_at in sb (k * size + p)
 
--- the same, as the code finds the point and cuts its block
+-- the same, as the code cuts the block
 pub row_found : (points : List ℕ) (size : ℕ) (blocks r : List ℕ) (x k : ℕ) → ((i : ℕ) → get_or points i 0 < 256) → ((i : ℕ) → get_or blocks i 0 < 256)
-    → PointSet points → k ≡ first_place points x → k < length points → length blocks ≡ length points * size
+    → PointSet points → k < length points → get_or points k 0 ≡ x → length blocks ≡ length points * size
     → r ≡ take (k * size + size - k * size) (drop (k * size) blocks) → r ≡ block_at points size blocks x
-row_found points size blocks r x k sp sb ps ek h el er =
-    row_copy points size blocks r x k sp sb ps.differ h
-    (ap (λ (j : ℕ). get_or points j 0) ek ∙ place_is points x (let q = ek in omega arith)) (er ∙ part_is size blocks k (k * size) refl)
+row_found points size blocks r x k sp sb ps h ek el er =
+    row_copy points size blocks r x k sp sb ps.differ h ek (er ∙ part_is size blocks k (k * size) refl)
     (ap length er ∙ part_length size blocks (k * size) (let q = mul-le-mul_right size h in let s = suc-mul k size in omega arith))
 
--- where the code finds no point
-pub row_not_found : (points : List ℕ) (x k : ℕ) → k ≡ first_place points x → length points ≤ k → (j : ℕ) → j < length points → get_or points j 0 ≡ x → ⊥
-row_not_found points x k ek h = place_not points x (let q = ek in omega arith)
+-- the turns of the loops along a block and over a row's blocks
+pub ruleset scaled_steps = (filled_more, filled_all)
+
+pub ruleset row_steps = (row_none, row_step)

@@ -1,46 +1,39 @@
--- Flags, one more at a time.
-use mathlib.Core.Path.{◌≡◌, sym, ap, ◌∙◌}
-use mathlib.Core.Bool.{Bool, true, false, and-false}
+-- Flags, as the library says `all`, `filter` and `count` of them.
+use mathlib.Core.Path.{◌≡◌, refl, ap, ◌∙◌}
+use mathlib.Core.Bool.{Bool, true, false, ◌&&◌, and-true, cond}
 use mathlib.Core.List.{List}
-use Prim.Native.Nat.{ℕ, zero, suc, ◌+◌, ◌-◌, ◌≤◌, ◌<◌}
+use Prim.Native.Nat.{ℕ, zero, suc, ◌+◌, ◌≤◌}
 use native.Mathlib.Nat.{add-zero, add-suc}
 use native.Mathlib.Numerals.{add-one}
 use native.Mathlib.Omega.{arith}
-use lib.Dec.{eqb, ltb}
-use lib.ListN.{get_or}
-use borrow.Author.Tests.{eq-eqb, ne_eqb, le-leb, lt-leb}
-use Rattle.message.specs.Flags.{member, members, flags_within, brick_set}
+use lib.Dec.{eqb, ltb, leb}
+use Rattle.std.specs.List.{list_all, filter, range_with_len}
+use lib.ListN.{get_or, length, take}
+use Rattle.std.proofs.Math.Bool.{and_assoc}
+use Rattle.std.proofs.lemmas.List.Filters.{length-filter_more}
+use Rattle.message.specs.Flags.{member, members, flags_within}
 use Rattle.settings.specs.Count.{count, one_if}
-use Rattle.settings.specs.Ranges.{max_bricks}
 
-pub members_yes : (flags : List ℕ) (i s : ℕ) → s ≡ members flags i → get_or flags i 0 ≡ 1 → s + 1 ≡ members flags (i + 1)
-unfolding members count member
-members_yes flags i s e f = rw (add-one i, eq-eqb (get_or flags i 0) 1 f) (ap (λ (k : ℕ). k + 1) e)
-
-pub members_no : (flags : List ℕ) (i s : ℕ) → s ≡ members flags i → (get_or flags i 0 ≡ 1 → ⊥) → s ≡ members flags (i + 1)
-unfolding members count member
-members_no flags i s e f = rw (add-one i, ne_eqb (get_or flags i 0) 1 f, add-zero (count (member flags) i)) e
-
-pub members_all : (flags : List ℕ) (i n s : ℕ) → s ≡ members flags i → n ≤ i → i ≤ n → s ≡ members flags n
-members_all flags i n s e a b = e ∙ ap (members flags) (omega arith)
-
-pub within_more : (flags : List ℕ) (n i : ℕ) → flags_within flags n i ≡ true → get_or flags i 0 ≤ one_if (ltb i n) → flags_within flags n (i + 1) ≡ true
+-- each flag up to a place
+within_from : (flags : List ℕ) (n a k : ℕ)
+    → flags_within flags n a && list_all (λ (i : ℕ). leb (get_or flags i 0) (one_if (ltb i n))) (range_with_len a k) ≡ flags_within flags n (a + k)
 unfolding flags_within
-within_more flags n i e h = rw (add-one i, e, le-leb (get_or flags i 0) (one_if (ltb i n)) h)
+within_from flags n a zero = rw (add-zero a) (and-true (flags_within flags n a))
+within_from flags n a (suc k) =
+    rw (add-suc a k, ← and_assoc, add-one a)
+    (within_from flags n (suc a) k ∙ ap (flags_within flags n) (let e : suc a + k ≡ suc (a + k) = omega arith in e))
 
--- one flag too large spoils all that follow
-spoilt : (flags : List ℕ) (n i k : ℕ) → one_if (ltb i n) < get_or flags i 0 → flags_within flags n (suc i + k) ≡ false
+pub within_is : (flags : List ℕ) (n k : ℕ) → list_all (λ (i : ℕ). leb (get_or flags i 0) (one_if (ltb i n))) (range_with_len 0 k) ≡ flags_within flags n k
 unfolding flags_within
-spoilt flags n i zero h = rw (add-zero (suc i), lt-leb (get_or flags i 0) (one_if (ltb i n)) h) (and-false (flags_within flags n i))
-spoilt flags n i (suc k) h = rw (add-suc (suc i) k, spoilt flags n i k h)
+within_is flags n k = within_from flags n 0 k ∙ ap (flags_within flags n) (let e : 0 + k ≡ k = omega arith in e)
 
-pub within_not : (flags : List ℕ) (n i : ℕ) → i < max_bricks → one_if (ltb i n) < get_or flags i 0 → false ≡ flags_within flags n max_bricks
-within_not flags n i l h = sym (ap (flags_within flags n) (let e : max_bricks ≡ suc i + (max_bricks - suc i) = omega arith in e) ∙ spoilt flags n i (max_bricks - suc i) h)
-
-pub brick_set_is : (flags : List ℕ) (n m : ℕ) (w : Bool) (s : ℕ) → w ≡ flags_within flags n max_bricks → w ≡ true → s ≡ members flags n → eqb s m ≡ brick_set flags n m
-unfolding brick_set
-brick_set_is flags n m w s e t f = rw (← e, t, f)
-
-pub brick_set_not : (flags : List ℕ) (n m : ℕ) (w : Bool) → w ≡ flags_within flags n max_bricks → w ≡ false → false ≡ brick_set flags n m
-unfolding brick_set
-brick_set_not flags n m w e t = rw (← e, t)
+-- the flags of a set, filtered and counted
+pub members_is : (flags : List ℕ) (n : ℕ) → n ≤ length flags → length (filter (λ (f : ℕ). eqb f 1) (take n flags)) ≡ members flags n
+unfolding members count member
+members_is flags zero h = refl
+members_is flags (suc n) h =
+    rw (← add-one n, length-filter_more (λ (f : ℕ). eqb f 1) flags n 0 (omega arith), members_is flags n (omega arith)) (one (eqb (get_or flags n 0) 1))
+  where
+    one : (b : Bool) → members flags n + cond b 1 0 ≡ members flags n + one_if b
+    one true = refl
+    one false = refl

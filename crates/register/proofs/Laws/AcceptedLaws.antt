@@ -31,7 +31,7 @@ use Rattle.brick_log.specs.BrickRules.{read_yes, order_yes, lookup, place_for, t
 use Rattle.brick_log.proofs.Laws.AnsweredLaws.{comparison_is_allowed}
 use Rattle.brick.specs.Receive
 use Rattle.brick.specs.Receive.{Outcome, beside, outcome, receive_refusal, refused_with, given_by, given_number}
-use Rattle.brick.specs.declared.Given.TheVariants.{Answered, Silent}
+use Rattle.brick.specs.Receive.{Answered, Silent}
 use Rattle.brick.proofs.Laws.OutcomeLaws.{Fronted, fronted, front_zero, passes}
 use Rattle.volume.specs.Rows.{row_size, image_at, in_row, row_refusal, row_outcome}
 use Rattle.volume.proofs.Laws.RowLaws.{image_at_length}

@@ -6,7 +6,7 @@ use Prim.Native.Nat.{ℕ, ◌<◌}
 use Rattle.settings.specs.Ranges.{in_range}
 use Rattle.settings.specs.declared.Settings.{Settings}
 use Rattle.coord_apply.specs.Answers.{Step, Returned, returned, returned_by}
-use Rattle.coord_apply.specs.declared.Answer.{Answer}
+use Rattle.coord_apply.specs.Answers.{Answer}
 use Rattle.order.specs.Claim.{Seen, OneOrder}
 use Rattle.register.specs.Runs.{plain, World, fresh_set, Event}
 use Rattle.register.specs.Runs.{Moved, unmoved, joined, coordinated}

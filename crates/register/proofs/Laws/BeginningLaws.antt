@@ -12,7 +12,7 @@ use Rattle.settings.specs.Refusal.{passed, bad_line}
 use Rattle.settings.specs.Times.{time_of, next_count, draw_refusal, advanced, draw_of}
 use Rattle.settings.proofs.Laws.TimeLaws.{gave}
 use Rattle.settings.specs.declared.Clock.{Clock}
-use Rattle.settings.specs.declared.Draw.TheVariants.{Drawn, Refused}
+use Rattle.settings.specs.Times.{Drawn, Refused}
 use Rattle.settings.specs.declared.Settings.{Settings}
 use Rattle.byte_lists.specs.Little.{are_bytes}
 use Rattle.image.proofs.Laws.ParseLaws.{range_of}

@@ -13,7 +13,7 @@ use Rattle.message.specs.Kinds.{write_kind, modify_kind}
 use Rattle.message.specs.declared.Message.{Message}
 use Rattle.brick.specs.Receive.{Outcome}
 use Rattle.coord_apply.specs.Answers.{Broadcast}
-use Rattle.coord_apply.specs.declared.Answer.{Answer}
+use Rattle.coord_apply.specs.Answers.{Answer}
 use Rattle.order.specs.Claim.{◌∈◌}
 use Rattle.register.specs.Runs.{Item, message, World}
 use Rattle.register.specs.Runs.{Moved, unmoved, block_for, old_for, to_all, broadcasts, received}

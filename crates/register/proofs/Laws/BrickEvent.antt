@@ -27,8 +27,8 @@ use Rattle.brick.proofs.Laws.OutcomeLaws.{passes}
 use Rattle.image.specs.Image.{image_size}
 use Rattle.image.proofs.Laws.ImageSoundLaws.{image_length}
 use Rattle.brick_log.specs.BrickRules.{place_for, reply_to, brick_after, block_after}
-use Rattle.brick.specs.declared.Given.{Given}
-use Rattle.brick.specs.declared.Given.TheVariants.{Answered, Silent, Refused}
+use Rattle.brick.specs.Receive.{Given}
+use Rattle.brick.specs.Receive.{Answered, Silent, Refused}
 use Rattle.order.specs.Claim.{◌∈◌}
 use Rattle.order.specs.Facts.{stored}
 use Rattle.order.specs.Places.{whole, In}

@@ -19,14 +19,14 @@ use Rattle.message.specs.Kinds.{write_kind, modify_kind}
 use Rattle.message.specs.declared.Message.{Message}
 use Rattle.message.specs.declared.Reply.{Reply}
 use Rattle.brick.specs.Receive.{Outcome, beside, outcome, outcome_with, front_refusal, refused_with, given_number}
-use Rattle.brick.specs.declared.Given.{Given}
+use Rattle.brick.specs.Receive.{Given}
 use Rattle.brick.proofs.Laws.OutcomeLaws.{Fronted, fronted, front_zero, passes}
 use Rattle.brick.proofs.Laws.GivenNumberLaws.{outcome_number}
 use Rattle.volume.proofs.Laws.RowLaws.{image_back}
 use Rattle.volume.specs.Rows.{row_size, image_at, with_image, in_row, row_refusal, row_outcome}
 use Rattle.coord_apply.specs.Acts.{buffered}
 use Rattle.coord_apply.specs.Answers.{Buffered, Went, Step, refused, went, returned, returned_by}
-use Rattle.coord_apply.specs.declared.Answer.{Answer}
+use Rattle.coord_apply.specs.Answers.{Answer}
 use Rattle.coordinator.specs.Routines.{take_step, crash_step, write_step, read_step, write_block_step, read_block_step}
 use Rattle.coord_laws.proofs.Laws.StepRunLaws.{took}
 use Rattle.order.specs.Claim.{◌∈◌, Seen}

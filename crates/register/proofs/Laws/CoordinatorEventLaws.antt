@@ -10,7 +10,7 @@ use borrow.Author.Tests.{eqb-true}
 use Rattle.byte_lists.specs.Little.{are_bytes}
 use Rattle.settings.specs.Times.{coordinator_of}
 use Rattle.settings.specs.declared.Clock.{Clock}
-use Rattle.settings.specs.declared.Draw.{Draw}
+use Rattle.settings.specs.Times.{Draw}
 use Rattle.settings.specs.declared.Settings.{Settings}
 use Rattle.message.specs.Kinds.{write_kind}
 use Rattle.message.specs.declared.Reply.{Reply}

@@ -10,8 +10,8 @@ use borrow.Author.Tests.{eqb-true, eq-eqb, ne_eqb}
 use Rattle.settings.specs.Ranges.{quorum}
 use Rattle.settings.specs.Times.{draw_of}
 use Rattle.settings.specs.declared.Clock.{Clock}
-use Rattle.settings.specs.declared.Draw.{Draw}
-use Rattle.settings.specs.declared.Draw.TheVariants.{Drawn, Refused}
+use Rattle.settings.specs.Times.{Draw}
+use Rattle.settings.specs.Times.{Drawn, Refused}
 use Rattle.settings.specs.declared.Settings.{Settings}
 use Rattle.message.specs.Flags.{members}
 use Rattle.message.specs.Kinds.{order_read_kind, write_kind, modify_kind, trim_kind, drop_kind}
@@ -29,7 +29,7 @@ use Rattle.coord_apply.specs.Acts.{starting}
 use Rattle.coord_apply.specs.Answers.{Buffered, Broadcast, Went, Step, refused, went, after_checks, nothing_seen, cut_seen, most_broadcasts, sent_count, sent_message, sent_blocks, answer_of}
 use Rattle.coord_apply.specs.Answers.{blocks_after, stripe_after, coded_after, returned, returned_by}
 use Rattle.coord_apply.proofs.Laws.AnswerLaws.{returned_answer}
-use Rattle.coord_apply.specs.declared.Answer.{Answer}
+use Rattle.coord_apply.specs.Answers.{Answer}
 use Rattle.coord_record.specs.declared.Coordinator.{Coordinator}
 use Rattle.coord_record.specs.declared.Op.{Op}
 use Rattle.coordinator.specs.Routines.{take_step, crash_step, crashed, drawn_then, write_step, read_step, write_block_step, read_block_step}

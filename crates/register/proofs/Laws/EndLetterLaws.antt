@@ -13,7 +13,7 @@ use Rattle.settings.specs.Ranges.{quorum}
 use Rattle.settings.specs.Times.{coordinator_of}
 use Rattle.settings.specs.declared.Settings.{Settings}
 use Rattle.settings.specs.declared.Clock.{Clock}
-use Rattle.settings.specs.declared.Draw.{Draw}
+use Rattle.settings.specs.Times.{Draw}
 use Rattle.message.specs.Flags.{members}
 use Rattle.message.specs.Kinds.{read_kind, third_round}
 use Rattle.message.specs.Messages.{stores_entry}

@@ -9,7 +9,7 @@ use lib.Dec.{leb}
 use borrow.Author.Tests.{le-leb, le-ltb, lt-leb}
 use Rattle.settings.specs.Times.{max_count, last_coordinator, time_of, next_count, draw_refusal, draw_of, Draws}
 use Rattle.settings.specs.declared.Clock.{Clock}
-use Rattle.settings.specs.declared.Draw.{Draw}
+use Rattle.settings.specs.Times.{Draw}
 use Rattle.settings.specs.declared.Settings.{Settings}
 use Rattle.settings.proofs.Laws.TimeLaws.{draw_given_lem, gave}
 use Rattle.message.specs.declared.Reply.{Reply}

@@ -21,7 +21,7 @@ use Rattle.image.specs.Image.{image_of}
 use Rattle.image.specs.Parse.{Parsed, Opens, Refuses, parse}
 use Rattle.brick.specs.Receive
 use Rattle.brick.specs.Receive.{Outcome, beside, outcome, receive_refusal, refused_with, given_by}
-use Rattle.brick.specs.declared.Given.TheVariants.{Answered, Silent}
+use Rattle.brick.specs.Receive.{Answered, Silent}
 use Rattle.volume.specs.Rows.{image_at, with_image, in_row, row_refusal, row_outcome}
 use Rattle.brick_log.specs.BrickRules.{place_for, reply_to, trimmed_to, dropped_from, written_if_yes, modified_if_yes, ordered_if_yes, brick_after, block_after}
 use Rattle.coord_record.specs.Records.{idle_kind, no_bricks, geometry_of, idle_with}

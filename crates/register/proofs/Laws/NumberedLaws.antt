@@ -12,8 +12,8 @@ use Rattle.register.specs.Numbered.{SixteenCoordinators}
 use Rattle.settings.specs.Refusal.{passed, refuse_unless, first_refusal, bad_length, bad_number}
 use Rattle.settings.specs.Times.{draw_of, coordinator_of, last_coordinator}
 use Rattle.settings.specs.declared.Clock.{Clock}
-use Rattle.settings.specs.declared.Draw.{Draw}
-use Rattle.settings.specs.declared.Draw.TheVariants.{Drawn, Refused}
+use Rattle.settings.specs.Times.{Draw}
+use Rattle.settings.specs.Times.{Drawn, Refused}
 use Rattle.settings.specs.declared.Settings.{Settings}
 use Rattle.settings.proofs.Laws.RefusalLaws.{passed_rest}
 use Rattle.message.specs.declared.Reply.{Reply}

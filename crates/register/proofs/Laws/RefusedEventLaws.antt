@@ -14,7 +14,7 @@ use Rattle.message.specs.declared.Message.{Message}
 use Rattle.image.specs.Parse.{Parsed, Opens, Refuses, parse}
 use Rattle.brick.specs.Receive
 use Rattle.brick.specs.Receive.{Outcome, beside, outcome, receive_refusal, refused_with, given_by, given_number}
-use Rattle.brick.specs.declared.Given.TheVariants.{Answered, Silent}
+use Rattle.brick.specs.Receive.{Answered, Silent}
 use Rattle.brick_log.specs.BrickRules.{reply_to}
 use Rattle.volume.specs.Rows.{image_at, with_image, in_row, row_refusal, row_outcome}
 use Rattle.volume.proofs.Laws.RowLaws.{image_back}

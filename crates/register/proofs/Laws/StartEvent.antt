@@ -16,7 +16,7 @@ use Rattle.settings.specs.Refusal.{refuse_unless, bad_length}
 use Rattle.settings.specs.Times.{time_of, draw_of, coordinator_of}
 use Rattle.settings.proofs.Laws.TimeLaws.{gave, drawn_above, drawn_own}
 use Rattle.settings.specs.declared.Clock.{Clock}
-use Rattle.settings.specs.declared.Draw.TheVariants.{Drawn}
+use Rattle.settings.specs.Times.{Drawn}
 use Rattle.settings.specs.declared.Settings.{Settings}
 use Rattle.settings.proofs.Laws.RefusalLaws.{tested}
 use Rattle.byte_lists.specs.Little.{Bytes}

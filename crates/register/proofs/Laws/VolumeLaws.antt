@@ -38,7 +38,7 @@ use Rattle.coord_laws.proofs.Laws.StepRunLaws.{took}
 use Rattle.volume.specs.Rows.{image_at, row_outcome}
 use Rattle.volume.proofs.Laws.RowTheoremLaws.{other_stripes_stay}
 use Rattle.order.specs.Claim.{Seen, ◌∈◌}
-use Rattle.settings.specs.declared.Draw.TheVariants.{Drawn}
+use Rattle.settings.specs.Times.{Drawn}
 use Rattle.order.specs.Valid.{Began}
 use Rattle.order.proofs.Laws.SeenLaws.{seen_began_in}
 use Rattle.register.specs.Runs.{plain, Item, message, reply, World, Event, start_write, start_read, start_write_block, start_read_block, arrives}

@@ -6,8 +6,8 @@ use native.Mathlib.Omega.{arith}
 use Rattle.settings.specs.Times.{last_coordinator, time_of, draw_of}
 use Rattle.settings.proofs.Laws.TimeLaws.{gave, drawn_above}
 use Rattle.settings.specs.declared.Clock.{Clock}
-use Rattle.settings.specs.declared.Draw.{Draw}
-use Rattle.settings.specs.declared.Draw.TheVariants.{Drawn, Refused}
+use Rattle.settings.specs.Times.{Draw}
+use Rattle.settings.specs.Times.{Drawn, Refused}
 use Rattle.settings.specs.Draws.{following, draws, RisingDraws}
 
 lower : (b d : ℕ) (ts : List ℕ) → b ≤ d → RisingDraws d ts → RisingDraws b ts

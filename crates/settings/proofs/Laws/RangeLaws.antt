@@ -1,12 +1,11 @@
 -- What settings that pass satisfy, and the ways through their refusal.
-use mathlib.Core.Path.{◌≡◌, refl, sym, ◌∙◌}
-use mathlib.Core.Bool.{Bool, true, false, ◌&&◌, true≢false}
+use mathlib.Core.Path.{◌≡◌, refl}
+use mathlib.Core.Bool.{Bool, true, false, ◌&&◌}
 use Prim.Native.Nat.{ℕ, ◌<◌}
-use native.Mathlib.Omega.{arith}
 use lib.Dec.{leb}
 use borrow.Author.Tests.{leb-true, ltb-true, le-leb}
 use Rattle.settings.specs.Ranges.{max_bricks, max_size, min_capacity, max_capacity, max_stripes, bricks_in_range, size_in_range, capacity_in_range, stripes_in_range, in_range}
-use Rattle.settings.specs.Ranges.{settings_refusal, code_refusal, stripe_count_refusal, stripe_refusal, CodeRange, SettingsRange}
+use Rattle.settings.specs.Ranges.{settings_refusal, code_refusal, stripe_refusal, CodeRange, SettingsRange}
 use Rattle.settings.specs.Refusal.{refuse_unless, bad_setting}
 use Rattle.settings.proofs.Laws.RefusalLaws.{tested}
 use Rattle.settings.specs.declared.Settings.{Settings}
@@ -60,26 +59,6 @@ settings_code s k e h = go (bricks_in_range s.n s.m && size_in_range s.size) (ca
     go : (a b c : Bool) → k ≡ refuse_unless a bad_setting → bad_setting ≡ refuse_unless (a && b && c) bad_setting
     go true b c d = absurd (h d)
     go false b c d = refl
-
-pub settings_capacity : (s : Settings) (k : ℕ) → k ≡ code_refusal s.n s.m s.size → k ≡ 0
-    → capacity_in_range s.capacity ≡ false → bad_setting ≡ settings_refusal s
-unfolding settings_refusal in_range code_refusal
-settings_capacity s k e h r = go (bricks_in_range s.n s.m && size_in_range s.size) (capacity_in_range s.capacity) (stripes_in_range s.stripes) e r
-  where
-    go : (a b c : Bool) → k ≡ refuse_unless a bad_setting → b ≡ false → bad_setting ≡ refuse_unless (a && b && c) bad_setting
-    go true false c d f = refl
-    go true true c d f = absurd (true≢false f)
-    go false b c d f = absurd (omega arith)
-
-pub settings_stripes : (s : Settings) (k v : ℕ) → k ≡ code_refusal s.n s.m s.size → k ≡ 0
-    → capacity_in_range s.capacity ≡ true → v ≡ stripe_count_refusal s.stripes → v ≡ settings_refusal s
-unfolding settings_refusal in_range code_refusal stripe_count_refusal
-settings_stripes s k v e h r q = q ∙ go (bricks_in_range s.n s.m && size_in_range s.size) (capacity_in_range s.capacity) (stripes_in_range s.stripes) e r
-  where
-    go : (a b c : Bool) → k ≡ refuse_unless a bad_setting → b ≡ true → refuse_unless c bad_setting ≡ refuse_unless (a && b && c) bad_setting
-    go true true c d f = refl
-    go true false c d f = absurd (true≢false (sym f))
-    go false b c d f = absurd (omega arith)
 
 -- settings in range pass
 pub in_range_lem : (s : Settings) → SettingsRange s → in_range s ≡ true

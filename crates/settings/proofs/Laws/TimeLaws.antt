@@ -8,7 +8,7 @@ use borrow.Author.Tests.{lt-ltb, le-leb, ltb-false, leb-true, leb-false}
 use Rattle.settings.specs.Times.{max_count, no_upper_end, coordinator_count, last_coordinator, time_of, valid_time, next_count, draw_refusal, advanced, draw_of, number_of, Draws, Gave}
 use Rattle.settings.specs.Refusal.{passed, bad_number, bad_record, bad_reading, clock_spent}
 use Rattle.settings.specs.declared.Clock.{Clock}
-use Rattle.settings.specs.declared.Draw.TheVariants.{Drawn, Refused}
+use Rattle.settings.specs.Times.{Drawn, Refused}
 
 pub draw_passed : (c : Clock) (reading k : ℕ) → k ≡ draw_refusal c reading → k ≡ 0 → Draws c reading
 unfolding draw_refusal

@@ -1,6 +1,6 @@
 -- Buffers filled row by row, and the ways through a routine at the boundary.
 use mathlib.Core.Path.{◌≡◌, refl, sym, ap, ap₂, subst, ◌∙◌}
-use mathlib.Core.Bool.{Bool, true, false}
+use mathlib.Core.Bool.{true}
 use mathlib.Core.List.{List, [], ◌∷◌, ◌++◌, append_assoc, append-nil}
 use Prim.Native.Nat.{ℕ, ◌+◌, ◌-◌}
 use native.Mathlib.Omega.{arith}
@@ -10,33 +10,26 @@ use lib.Seq.{take-append-add, drop-append-add, take_at, drop-set-add}
 use borrow.Author.Tests.{eq-eqb, ne_eqb, eqb-true}
 use borrow.Rule.Slice.PartMut.{put_mid, Post-is}
 use Rattle.byte_lists.proofs.Laws.PutLaws.{stores}
-use Rattle.byte_lists.specs.Lists.{tabulate}
-use Rattle.byte_lists.proofs.Laws.TabulateLaws.{tabulate_by}
 use Rattle.test_coordinator.specs.CoordinatorBoundary.{record_numbers_length, record_bytes_length, answer_numbers_length, answer_bytes_length}
 use Rattle.test_coordinator.specs.CoordinatorBoundary.{coordinator_at, last_at, record_time_at, round_at, max_at}
 use Rattle.test_coordinator.specs.CoordinatorBoundary.{first_at, record_n_at, record_m_at, record_size_at, record_stripes_at, record_stripe_at, record_found_at}
 use Rattle.test_coordinator.specs.CoordinatorBoundary.{kind_at, phase_at, counted_at, granted_at, record_held_at, bricks_at, said_at}
-use Rattle.test_coordinator.specs.CoordinatorBoundary.{targets_at, seen_bricks_at, second_targets_at, second_kind_at, seen_letter_at, lent_refusal, rows_refusal}
+use Rattle.test_coordinator.specs.CoordinatorBoundary.{targets_at, seen_bricks_at, second_targets_at, second_kind_at, seen_letter_at, rows_refusal}
 use Rattle.test_coordinator.specs.CoordinatorBoundary.{record_for, record_numbers, record_bytes, answer_numbers, answer_bytes}
-use Rattle.test_coordinator.specs.CoordinatorBoundary.{Rows, rows, lent_lengths, laid_out, at_boundary, crossing, row_put, row_at}
+use Rattle.test_coordinator.specs.CoordinatorBoundary.{Lengths, Rows, rows, lent_lengths, laid_out, at_boundary, crossing, row_put, row_at}
 use Rattle.coord_apply.specs.Answers.{Returned, returned}
-use Rattle.settings.specs.Ranges.{max_bricks, code_refusal, stripe_count_refusal}
-use Rattle.settings.specs.Refusal.{passed, first_refusal, bad_length}
-use Rattle.settings.proofs.Laws.RefusalLaws.{first_stop, first_pass, passed_first, passed_rest, tested}
-use Rattle.coord_apply.specs.declared.Answer.{Answer}
+use Rattle.settings.specs.Ranges.{max_bricks}
+use Rattle.settings.specs.Refusal.{passed}
+use Rattle.coord_apply.specs.Answers.{Answer}
 use Rattle.coord_record.specs.declared.Coordinator.{Coordinator}
 use Rattle.byte_lists.proofs.Laws.BoolLaws.{and_left, and_right}
 
--- sixteen entries, read one by one
-pub sixteen : (t : List ℕ) → length t ≡ max_bricks → t ≡ tabulate max_bricks (λ (i : ℕ). get_or t i 0)
-sixteen t e = tabulate_by max_bricks (λ (i : ℕ). get_or t i 0) t e (λ i h. refl)
-
 -- a row replaced, as the code replaces it
-pub row_put_is : (at end : ℕ) (row out ys : List ℕ) → end ≡ at + max_bricks → ys ≡ row → put_mid at (end - at) out ys ≡ row_put at row out
+pub row_put_is : {A : Type 0} (at end : ℕ) (row out ys : List A) → end ≡ at + max_bricks → ys ≡ row → put_mid at (end - at) out ys ≡ row_put at row out
 unfolding row_put
 row_put_is at end row out ys e f =
-    ap (λ (l : List ℕ). take at out ++ (ys ++ l)) (Post-is at end out (omega arith))
-    ∙ ap (λ (l : List ℕ). take at out ++ (l ++ drop end out)) f
+    ap (λ (l : List _). take at out ++ (ys ++ l)) (Post-is at end out (omega arith))
+    ∙ ap (λ (l : List _). take at out ++ (l ++ drop end out)) f
     ∙ ap (λ (k : ℕ). take at out ++ (row ++ drop k out)) e
 
 -- a row replaced behind a front
@@ -184,23 +177,6 @@ pub answer_stored : (l : List ℕ) (a b c d e f g i j k m n o p q r : ℕ) → l
     ≡ a ∷ b ∷ c ∷ d ∷ e ∷ f ∷ g ∷ i ∷ j ∷ k ∷ m ∷ n ∷ o ∷ p ∷ q ∷ r ∷ []
 answer_stored l a b c d e f g i j k m n o p q r h = stores (a ∷ b ∷ c ∷ d ∷ e ∷ f ∷ g ∷ i ∷ j ∷ k ∷ m ∷ n ∷ o ∷ p ∷ q ∷ r ∷ []) l h
 
--- the ways through the test of the four buffers
-pub lent_no_numbers : (a b c d : ℕ) → (a ≡ record_numbers_length → ⊥) → false ≡ lent_lengths a b c d
-unfolding lent_lengths
-lent_no_numbers a b c d h = rw (ne_eqb a record_numbers_length h) refl
-
-pub lent_no_bytes : (a b c d : ℕ) → a ≡ record_numbers_length → (b ≡ record_bytes_length → ⊥) → false ≡ lent_lengths a b c d
-unfolding lent_lengths
-lent_no_bytes a b c d e h = rw (eq-eqb a record_numbers_length e, ne_eqb b record_bytes_length h) refl
-
-pub lent_no_sent : (a b c d : ℕ) → a ≡ record_numbers_length → b ≡ record_bytes_length → (c ≡ answer_numbers_length → ⊥) → false ≡ lent_lengths a b c d
-unfolding lent_lengths
-lent_no_sent a b c d e f h = rw (eq-eqb a record_numbers_length e, eq-eqb b record_bytes_length f, ne_eqb c answer_numbers_length h) refl
-
-pub lent_last : (a b c d : ℕ) → a ≡ record_numbers_length → b ≡ record_bytes_length → c ≡ answer_numbers_length → eqb d answer_bytes_length ≡ lent_lengths a b c d
-unfolding lent_lengths
-lent_last a b c d e f g = rw (eq-eqb a record_numbers_length e, eq-eqb b record_bytes_length f, eq-eqb c answer_numbers_length g) refl
-
 -- an answer laid out, or refused
 pub laid_refused : (l : Rows) (a : Answer) → (a.refusal ≡ 0 → ⊥) → l ≡ laid_out l a
 unfolding laid_out
@@ -242,13 +218,7 @@ unfolding record_for
 record_is numbers bytes found counted granted held bricks said ef ec eg eh eb es = rw (ef, ec, eg, eh, eb, es) refl
 
 -- what the test says of the four lengths
-pub record Lengths (numbers bytes sent shown : ℕ) : Type 0 where
-  pub numbers-long : numbers ≡ record_numbers_length
-  pub bytes-long : bytes ≡ record_bytes_length
-  pub sent-long : sent ≡ answer_numbers_length
-  pub shown-long : shown ≡ answer_bytes_length
-
-lengths_right_lem : (a b c d : ℕ) → lent_lengths a b c d ≡ true → Lengths a b c d
+pub lengths_right_lem : (a b c d : ℕ) → lent_lengths a b c d ≡ true → Lengths a b c d
 unfolding lent_lengths
 lengths_right_lem a b c d e =
     let e2 = and_right (eqb a record_numbers_length) _ e in
@@ -259,33 +229,6 @@ lengths_right_lem a b c d e =
       sent-long = eqb-true c answer_numbers_length (and_left (eqb c answer_numbers_length) _ e3);
       shown-long = eqb-true d answer_bytes_length (and_right (eqb c answer_numbers_length) _ e3);
     }
-
--- the ways through the boundary's own refusals, and what it says that none was made
-module _ (n m size stripes a b c d k : ℕ) where
-  pub lent_setting : k ≡ code_refusal n m size → (k ≡ passed → ⊥) → k ≡ lent_refusal n m size stripes a b c d
-  unfolding lent_refusal
-  lent_setting e h = e ∙ first_stop (code_refusal n m size) _ (λ q. h (e ∙ q))
-
-  pub lent_count : (s : ℕ) → k ≡ code_refusal n m size → k ≡ passed → s ≡ stripe_count_refusal stripes → (s ≡ passed → ⊥) → s ≡ lent_refusal n m size stripes a b c d
-  unfolding lent_refusal
-  lent_count s e h f g =
-      f ∙ first_stop (stripe_count_refusal stripes) _ (λ q. g (f ∙ q)) ∙ sym (first_pass (code_refusal n m size) _ (sym e ∙ h))
-
-  pub lent_passed : (s : ℕ) (right : Bool) → k ≡ code_refusal n m size → k ≡ passed → s ≡ stripe_count_refusal stripes → s ≡ passed → right ≡ lent_lengths a b c d
-      → right ≡ true → passed ≡ lent_refusal n m size stripes a b c d
-  unfolding lent_refusal first_refusal
-  lent_passed s right e h es hs f r = rw (← e, h, ← es, hs, ← f, r) refl
-
-  pub lent_short : (s : ℕ) (right : Bool) → k ≡ code_refusal n m size → k ≡ passed → s ≡ stripe_count_refusal stripes → s ≡ passed → right ≡ lent_lengths a b c d
-      → right ≡ false → bad_length ≡ lent_refusal n m size stripes a b c d
-  unfolding lent_refusal first_refusal
-  lent_short s right e h es hs f r = rw (← e, h, ← es, hs, ← f, r) refl
-
-  pub lengths : k ≡ lent_refusal n m size stripes a b c d → k ≡ passed → Lengths a b c d
-  unfolding lent_refusal
-  lengths e h =
-      lengths_right_lem a b c d
-      (tested _ 1 (passed_first _ [] (passed_rest (stripe_count_refusal stripes) _ (passed_rest (code_refusal n m size) _ (sym e ∙ h)))))
 
 -- a call that the boundary refuses, or lets through
 pub crossed_refused : (n m size stripes k : ℕ) (l : Rows) (blocks stripe coded : List ℕ) (r : Returned) → k ≡ rows_refusal n m size stripes l → (k ≡ passed → ⊥)

@@ -1,5 +1,5 @@
 -- The ways through a probed draw: d is what the clock gave.
-use mathlib.Core.Path.{◌≡◌, refl, sym, ap, ◌∙◌}
+use mathlib.Core.Path.{◌≡◌, refl, ap, ◌∙◌}
 use mathlib.Core.List.{List, [], ◌∷◌}
 use Prim.Native.Nat.{ℕ}
 use lib.ListN.{length, set}
@@ -9,8 +9,8 @@ use Rattle.test_field.specs.FieldBoundary.{drawn_numbers, clock_of, draw_written
 use Rattle.settings.specs.Refusal.{passed, bad_length}
 use Rattle.settings.specs.Times.{draw_of, number_of}
 use Rattle.settings.specs.declared.Clock.{Clock}
-use Rattle.settings.specs.declared.Draw.{Draw}
-use Rattle.settings.specs.declared.Draw.TheVariants.{Drawn, Refused}
+use Rattle.settings.specs.Times.{Draw}
+use Rattle.settings.specs.Times.{Drawn, Refused}
 
 two : (a b : ℕ) (out : List ℕ) → length out ≡ drawn_numbers → set (set out 0 a) 1 b ≡ a ∷ b ∷ []
 two a b out h = stores (a ∷ b ∷ []) out h
@@ -24,14 +24,14 @@ module _ (c l r : ℕ) (out : List ℕ) where
   unfolding draw_at
   whole d h e = rw (eq-eqb (length out) drawn_numbers h, ← e) refl
 
-  pub draw_refused_at : (k number : ℕ) (d : Draw) → length out ≡ drawn_numbers → d ≡ draw_of (clock_of c l) r → d ≡ Refused k → number ≡ number_of d
+  pub draw_refused_at : (number : ℕ) → length out ≡ drawn_numbers → Refused number ≡ draw_of (clock_of c l) r
       → record { number = number; drawn = out } ≡ draw_at c l r out
-  unfolding draw_given draw_written
-  draw_refused_at k number d h e f n =
-      ap (λ (x : ℕ). record { number = x; drawn = out }) n ∙ ap (λ (x : Draw). record { number = number_of d; drawn = draw_written x out }) (sym f) ∙ whole d h e
+  unfolding draw_given draw_written number_of
+  draw_refused_at number h e = whole (Refused number) h e
 
-  pub draw_given_at : (t : ℕ) (next : Clock) (d : Draw) → length out ≡ drawn_numbers → d ≡ draw_of (clock_of c l) r → d ≡ Drawn t next
+  pub draw_given_at : (t : ℕ) (next : Clock) → length out ≡ drawn_numbers → Drawn t next ≡ draw_of (clock_of c l) r
       → record { number = passed; drawn = set (set out 0 t) 1 next.last } ≡ draw_at c l r out
   unfolding draw_given draw_written number_of
-  draw_given_at t next d h e f =
-      ap (λ (x : List ℕ). record { number = passed; drawn = x }) (two t next.last out h) ∙ ap (λ (x : Draw). draw_given x out) (sym f) ∙ whole d h e
+  draw_given_at t next h e = ap (λ (x : List ℕ). record { number = passed; drawn = x }) (two t next.last out h) ∙ whole (Drawn t next) h e
+
+pub ruleset draw_ways = (draw_short, draw_refused_at, draw_given_at)

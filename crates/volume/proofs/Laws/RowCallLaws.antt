@@ -3,18 +3,20 @@ use mathlib.Core.Path.{◌≡◌, refl, sym, ap, ◌∙◌}
 use mathlib.Core.List.{List}
 use Prim.Native.Nat.{ℕ, ◌+◌, ◌-◌, ◌*◌, ◌≤◌, ◌<◌}
 use native.Mathlib.Omega.{arith}
+use native.Mathlib.Numerals.{add-one}
 use native.Mathlib.Nat.{suc-mul, mul-le-mul_right}
 use lib.Dec.{eqb, ltb}
 use lib.ListN.{length, take, drop}
-use borrow.Author.Tests.{eq-eqb, ne_eqb, eqb-true, ltb-true, lt-ltb, le-ltb}
+use borrow.Author.Tests.{eq-eqb, ne_eqb, eqb-true, ltb-true, lt-ltb}
 use borrow.Rule.Slice.PartMut.{put_mid}
 use Rattle.settings.specs.Ranges.{settings_refusal, SettingsRange}
-use Rattle.settings.specs.Refusal.{passed, refuse_unless, first_refusal, bad_length, bad_number}
+use Rattle.settings.specs.Refusal.{refuse_unless, first_refusal, bad_length, bad_number}
 use Rattle.settings.specs.declared.Settings.{Settings}
 use Rattle.settings.proofs.Laws.RangeLaws.{settings_passed, in_range_lem}
 use Rattle.settings.proofs.Laws.RefusalLaws.{first_stop, passed_first, passed_rest, tested}
 use Rattle.message.specs.declared.Message.{Message}
 use Rattle.byte_lists.specs.Lists.{put, stacked}
+use Rattle.byte_lists.proofs.Laws.StackLaws.{Stacked, stacked_more}
 use Rattle.byte_lists.proofs.Laws.PutLaws.{put_mid_lem}
 use Rattle.image_block.specs.Block.{block_bytes}
 use Rattle.image.specs.Brick.{fresh_brick}
@@ -23,8 +25,8 @@ use Rattle.image.specs.Opening.{lending_refusal}
 use Rattle.image_write.specs.Saving.{fresh_after}
 use Rattle.brick.specs.Receive.{Beside, beside, Outcome, outcome_with, refused_with, front_refusal, outcome}
 use Rattle.brick.proofs.Laws.OutcomeLaws.{Fronted}
-use Rattle.brick.specs.declared.Given.{Given}
-use Rattle.brick.specs.declared.Given.TheVariants.{Refused}
+use Rattle.brick.specs.Receive.{Given}
+use Rattle.brick.specs.Receive.{Refused}
 use Rattle.volume.specs.Rows.{row_size, image_at, with_image, fresh_row, row_lending_refusal, fresh_row_after, in_row, row_refusal, row_outcome}
 
 module _ (s : Settings) (brick : ℕ) (row : List ℕ) (msg : Message) (block old out : List ℕ) where
@@ -77,25 +79,7 @@ image_room_lem s brick lent msg b room f e =
     let d = f.lent_is ∙ ap (λ (j : ℕ). s.stripes * j) (sym e) in
     omega (arith, a, c, d)
 
--- the ways of a row for a fresh brick
-module _ (s : Settings) (brick len k : ℕ) (e : k ≡ settings_refusal s) where
-  pub row_setting : (k ≡ 0 → ⊥) → k ≡ row_lending_refusal s brick len
-  unfolding row_lending_refusal
-  row_setting h = e ∙ first_stop (settings_refusal s) _ (λ q. h (e ∙ q))
-
-  pub row_length : k ≡ 0 → (len ≡ s.stripes * (block_bytes * (s.capacity + 1)) → ⊥) → bad_length ≡ row_lending_refusal s brick len
-  unfolding row_lending_refusal first_refusal row_size image_size
-  row_length z h = rw (sym e ∙ z, ne_eqb len (s.stripes * (block_bytes * (s.capacity + 1))) h) refl
-
-  pub row_brick : k ≡ 0 → len ≡ s.stripes * (block_bytes * (s.capacity + 1)) → s.n ≤ brick → bad_number ≡ row_lending_refusal s brick len
-  unfolding row_lending_refusal first_refusal row_size image_size
-  row_brick z h l = rw (sym e ∙ z, eq-eqb len (s.stripes * (block_bytes * (s.capacity + 1))) h, le-ltb brick s.n l) refl
-
-  pub row_right : k ≡ 0 → len ≡ s.stripes * (block_bytes * (s.capacity + 1)) → brick < s.n → passed ≡ row_lending_refusal s brick len
-  unfolding row_lending_refusal first_refusal row_size image_size
-  row_right z h l = rw (sym e ∙ z, eq-eqb len (s.stripes * (block_bytes * (s.capacity + 1))) h, lt-ltb brick s.n l) refl
-
--- What passes them.
+-- What passes the checks of a row for a fresh brick.
 pub record LentRow (s : Settings) (brick len : ℕ) : Type 0 where
   pub range : SettingsRange s
   pub long : len ≡ row_size s
@@ -142,3 +126,9 @@ pub fresh_part : (s : Settings) (brick : ℕ) (part : List ℕ) → SettingsRang
     → fresh_after s brick part ≡ image_of s brick (fresh_brick s)
 unfolding fresh_after lending_refusal first_refusal image_size
 fresh_part s brick part g l e = rw (in_range_lem s g, eq-eqb (length part) (block_bytes * (s.capacity + 1)) e, lt-ltb brick s.n l) refl
+
+-- one image more of a row
+pub stacked_next : (f : ℕ → List ℕ) (size : ℕ) (old out ys : List ℕ) (x : ℕ) → Stacked f size old out x (x * size) → x * size + size ≤ length out
+    → length ys ≡ size → ys ≡ f x → Stacked f size old (put_mid (x * size) (x * size + size - x * size) out ys) (x + 1) ((x + 1) * size)
+stacked_next f size old out ys x h u l e =
+    rw (add-one x, suc-mul x size) (rw add-one at (stacked_more f size old out ys x (x * size) h u l e))

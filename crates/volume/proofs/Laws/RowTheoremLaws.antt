@@ -15,7 +15,7 @@ use Rattle.byte_lists.specs.Lists.{put}
 use Rattle.byte_lists.proofs.Laws.PutLaws.{put_is}
 use Rattle.image.specs.Image.{image_size}
 use Rattle.brick.specs.Receive.{Beside, beside, Outcome, outcome_with, front_refusal, refused_with, outcome}
-use Rattle.brick.specs.declared.Given.TheVariants.{Refused}
+use Rattle.brick.specs.Receive.{Refused}
 use Rattle.brick.proofs.Laws.OutcomeLaws.{Fronted, fronted, ends_early}
 use Rattle.brick.proofs.Laws.OutcomeLengthLaws.{outcome_length}
 use Rattle.volume.specs.Rows.{row_size, image_at, with_image, in_row, row_refusal, row_outcome}
