@@ -43,6 +43,24 @@ fn the_example_compiles_and_runs() {
     }
 }
 
+/// A caller who links without a C library brings what the header says, and nothing else is asked for.
+#[test]
+fn the_archive_calls_what_its_header_says() {
+    for (name, words, called) in [
+        ("erasure", "It calls memset, and nothing else\n   outside.", &["memset"][..]),
+        ("volume", "It calls nothing outside.", &[]),
+    ] {
+        assert!(header(name).contains(words), "{name}");
+        let listed = Command::new("nm").arg("-u").arg(path(&format!("target/staticlib/lib{name}.a"))).output().unwrap();
+        assert!(listed.status.success(), "{name}: {}", String::from_utf8_lossy(&listed.stderr));
+        let text = String::from_utf8(listed.stdout).unwrap();
+        let mut asked: Vec<&str> = text.lines().filter_map(|line| line.trim().strip_prefix("U ")).collect();
+        asked.sort_unstable();
+        asked.dedup();
+        assert_eq!(asked, called, "{name}");
+    }
+}
+
 /// A header declares what its library has, and names each number that its routines refuse.
 #[test]
 fn the_header_says_every_refusal() {

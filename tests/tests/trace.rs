@@ -288,20 +288,37 @@ fn is_goal(word: &str, old: &str, edit: &str) -> bool {
     word.starts_with("Need-") && old.contains("Need-") || renamed.any(|(was, now)| now == word && holds(old, &was))
 }
 
-/// The names that an edit brings along: after `let` and λ, the first parameter of a function, and what it adds to a `use` of another crate's
-/// constants, functions and types, if they are there.
+/// What a line `use PATH.{NAMES};` of code, or `use PATH.{NAMES}` of a file of laws or answers, brings in, if it is there: another crate's constants,
+/// functions and types, a module's public laws, or what the library has in common.
+fn imported(line: &str) -> Vec<&str> {
+    let Some(rest) = line.strip_prefix("use ") else { return Vec::new() };
+    if let Some((krate, names)) = rest.strip_suffix("};").and_then(|rest| rest.split_once("::{")) {
+        let text = source(krate);
+        return names.split(", ").filter(|name| declares(&text, name)).collect();
+    }
+    let Some((path, names)) = rest.strip_suffix('}').and_then(|rest| rest.split_once(".{")) else { return Vec::new() };
+    let parts: Vec<&str> = path.split('.').collect();
+    let ["Rattle", krate, "proofs", at @ ..] = &parts[..] else { return Vec::new() };
+    if *krate == "std" {
+        return names.split(", ").collect();
+    }
+    let module = read(&format!("crates/{krate}/proofs/{}.antt", at.join("/")));
+    names.split(", ").filter(|name| module.contains(&format!("pub {name} :"))).collect()
+}
+
+/// The names that an edit brings along: after `let`, in the pattern of an `if let`, after λ, the first parameter of a function, the answer to a goal
+/// that its code adds (`NAME : goal.GOAL`; `edits.rs` reads whether there was such a goal), and what it adds to a `use`, if that is there.
 fn brought(edit: &str) -> BTreeSet<&str> {
     let mut found = BTreeSet::new();
     for line in edit.lines().filter_map(|line| line.strip_prefix("new: ")) {
         found.extend(line.split("let ").skip(1).filter_map(|rest| rest.split(' ').next()));
+        let patterns = line.split("if let ").skip(1).filter_map(|rest| rest.split(" = ").next());
+        found.extend(patterns.flat_map(|pattern| pattern.split(|letter: char| !letter.is_alphanumeric() && letter != '_')));
         found.extend(line.split("λ ").skip(1).filter_map(|rest| rest.split('.').next()));
         let parameters = line.split_once("fn ").and_then(|(_, rest)| rest.split_once('('));
         found.extend(parameters.and_then(|(_, rest)| Some(rest.split_once(": ")?.0)));
-        let imported = line.strip_prefix("use ").and_then(|rest| rest.strip_suffix("};")?.split_once("::{"));
-        if let Some((krate, names)) = imported {
-            let text = source(krate);
-            found.extend(names.split(", ").filter(|name| declares(&text, name)));
-        }
+        found.extend(line.split_once(" : goal.").map(|(name, _)| name.strip_prefix("pub ").unwrap_or(name)));
+        found.extend(imported(line));
     }
     found
 }

@@ -32,11 +32,11 @@ fn carry_one(
         Turned b l at out.old (carried b.settings (world_in b l) number) result l' out.new }
 {
     if number == 0 {
-        return bench_rules::refuse(b, Refusal::BadLine, at, out);
+        return bench_rules::refuse_as(b, Refusal::BadLine, at, out);
     }
     let last = number as usize;
     if b.sent < last {
-        return bench_rules::refuse(b, Refusal::BadLine, at, out);
+        return bench_rules::refuse_as(b, Refusal::BadLine, at, out);
     }
     let k = last - 1;
     if bench_sent::is_reply(numbers, k) {

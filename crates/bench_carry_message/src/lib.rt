@@ -15,7 +15,7 @@ ghost use Rattle.brick.specs.Receive.{given_in, receive_refusal};
 ghost use Rattle.settings.specs.Refusal.{number_of_refusal, refusal_in};
 
 use bench_limits::{BLOCK_PLACE, IMAGE_ROOM, LAST_MESSAGE, OLD_BLOCK_PLACE, ROW_BYTES, SIZE, UP};
-use bench_rules::{After, refuse};
+use bench_rules::{After, refuse_as};
 use bench_state::Bench;
 use message::{Message, Reply, is_silent};
 use settings::{Refusal, Settings};
@@ -42,7 +42,7 @@ fn settle(
             After { bench, used: at }
         }
         Ok(None) => After { bench: b, used: at },
-        Err(refusal) => refuse(b, refusal, at, out),
+        Err(refusal) => refuse_as(b, refusal, at, out),
     }
 }
 
@@ -140,7 +140,7 @@ pub fn carry_message(
     let s = b.settings;
     let brick = bench_sent::brick_at(numbers, k);
     if s.n <= brick {
-        return refuse(b, Refusal::BadNumber, at, out);
+        return refuse_as(b, Refusal::BadNumber, at, out);
     }
     if b.up[brick] != UP {
         return After { bench: b, used: at };
@@ -148,7 +148,7 @@ pub fn carry_message(
     let msg = bench_sent::message_at(numbers, bytes, k);
     if !may_send(msg.kind, b.sent) {
         let refusal = past_limit(s, brick, images, msg);
-        return refuse(b, refusal, at, out);
+        return refuse_as(b, refusal, at, out);
     }
     deliver(b, k, brick, msg, images, numbers, bytes, at, out)
 }

@@ -38,7 +38,7 @@ pub fn carry_reply(
     let reply = bench_sent::reply_at(numbers, k);
     let c = reply.time % settings::COORDINATOR_COUNT;
     if COORDINATORS <= c {
-        return bench_rules::refuse(b, Refusal::BadNumber, at, out);
+        return bench_rules::refuse_as(b, Refusal::BadNumber, at, out);
     }
     let seat = c as usize;
     let s = b.settings;

@@ -95,11 +95,11 @@ pub fn commit(
         kept.new numbers.new bytes.new out.new }
 {
     let Ok(a) = answer else {
-        return bench_rules::refuse(b, answer.unwrap_err(), at, out);
+        return bench_rules::refuse_as(b, answer.unwrap_err(), at, out);
     };
     let sent = b.sent + a.sent * b.settings.n;
     if LAST_MESSAGE < sent {
-        return bench_rules::refuse(b, Refusal::BadLine, at, out);
+        return bench_rules::refuse_as(b, Refusal::BadLine, at, out);
     }
     keep_answer(b, c, a, sent, sources, kept, numbers, bytes, at, out)
 }

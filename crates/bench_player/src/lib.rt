@@ -54,10 +54,10 @@ fn play_first(
                     let bench = bench_state::set_up(s, images, kept);
                     After { bench, used: 0 }
                 }
-                Err(refusal) => bench_rules::refuse(b, refusal, 0, out),
+                Err(refusal) => bench_rules::refuse_as(b, refusal, 0, out),
             }
         }
-        _ => bench_rules::refuse(b, Refusal::BadLine, 0, out),
+        _ => bench_rules::refuse_as(b, Refusal::BadLine, 0, out),
     }
 }
 
@@ -80,7 +80,7 @@ fn play_next(
         Lined b l out.old (plays b.settings (world_in b l) (reads line.now)) result l' out.new }
 {
     match l {
-        Line::Set(_, _, _, _) => bench_rules::refuse(b, Refusal::BadLine, 0, out),
+        Line::Set(_, _, _, _) => bench_rules::refuse_as(b, Refusal::BadLine, 0, out),
         Line::Write(c, clock, hex) => {
             bench_start::write_at(b, c, clock, line, hex, kept, numbers, bytes, out)
         }
@@ -91,7 +91,7 @@ fn play_next(
         Line::Crash(c) => bench_start::crash_at(b, c, kept, numbers, bytes, out),
         Line::Down(brick) => switch_at(b, brick, DOWN, out),
         Line::Up(brick) => switch_at(b, brick, UP, out),
-        Line::Unread => bench_rules::refuse(b, Refusal::BadLine, 0, out),
+        Line::Unread => bench_rules::refuse_as(b, Refusal::BadLine, 0, out),
     }
 }
 

@@ -19,12 +19,20 @@ pub struct After {
     pub used: usize,
 }
 
-// One refusal, printed.
+// One refusal, by its number, printed.
 #[tactic(auto, unfolding(crate::specs::Play::refuses))]
-pub fn refuse(b: Bench, refusal: Refusal, at: usize, out: &mut [u8]) -> After
+pub fn refuse(b: Bench, number: u32, at: usize, out: &mut [u8]) -> After
+    requires { (b.sent ≤ last_message) × (at + line_room ≤ length out.old) }
+    ensures { (l : Lent) → Turned b l at out.old (refuses (world_in b l) number) result l out.new }
+{
+    let used = bench_print::put_refused(number, at, out);
+    After { bench: b, used }
+}
+
+// One refusal, printed.
+pub fn refuse_as(b: Bench, refusal: Refusal, at: usize, out: &mut [u8]) -> After
     requires { (b.sent ≤ last_message) × (at + line_room ≤ length out.old) }
     ensures { (l : Lent) → Turned b l at out.old (refuses (world_in b l) (number_of_refusal refusal)) result l out.new }
 {
-    let used = bench_print::put_refused(refusal.number(), at, out);
-    After { bench: b, used }
+    refuse(b, refusal.number(), at, out)
 }

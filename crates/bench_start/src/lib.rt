@@ -64,7 +64,7 @@ pub fn read_at(
         kept.new numbers.new bytes.new out.new }
 {
     if COORDINATORS <= c {
-        return bench_rules::refuse(b, Refusal::BadNumber, 0, out);
+        return bench_rules::refuse_as(b, Refusal::BadNumber, 0, out);
     }
     let seat = c as usize;
     let s = b.settings;
@@ -105,7 +105,7 @@ pub fn crash_at(
         kept.new numbers.new bytes.new out.new }
 {
     if COORDINATORS <= c {
-        return bench_rules::refuse(b, Refusal::BadNumber, 0, out);
+        return bench_rules::refuse_as(b, Refusal::BadNumber, 0, out);
     }
     let seat = c as usize;
     let s = b.settings;
@@ -145,7 +145,7 @@ pub fn write_at(
         kept.new numbers.new bytes.new out.new }
 {
     if COORDINATORS <= c {
-        return bench_rules::refuse(b, Refusal::BadNumber, 0, out);
+        return bench_rules::refuse_as(b, Refusal::BadNumber, 0, out);
     }
     let seat = c as usize;
     let s = b.settings;
@@ -166,7 +166,7 @@ pub fn write_at(
         &mut stripe[..data],
     );
     if is_short(a, right) {
-        return bench_rules::refuse(b, Refusal::BadLine, 0, out);
+        return bench_rules::refuse_as(b, Refusal::BadLine, 0, out);
     }
     let sources = Sources {
         blocks: &blocks[..all],

@@ -23,7 +23,7 @@ pub fn switch_at(b: Bench, brick: u64, flag: u8, out: &mut [u8]) -> After
 {
     let place = brick as usize;
     if b.settings.n <= place {
-        return bench_rules::refuse(b, Refusal::BadNumber, 0, out);
+        return bench_rules::refuse_as(b, Refusal::BadNumber, 0, out);
     }
     let bench = bench_state::with_up(b, place, flag);
     After { bench, used: 0 }

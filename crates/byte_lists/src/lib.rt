@@ -58,11 +58,14 @@ pub fn clear(out: &mut [u8])
 }
 
 // Bytes copied into others of the same number.
+// stays: a loop and not `copy_from_slice`, for the C interface: that one calls memmove, and include/erasure.h says that nothing but memset is called.
 pub fn copy(from: &[u8], to: &mut [u8])
     requires { length from.now ≡ length to.old }
     ensures { to.new ≡ from.now }
 {
-    to.copy_from_slice(from);
+    for i in 0..to.len() {
+        to[i] = from[i];
+    }
 }
 
 // Whether bytes are the same as others of the same number.

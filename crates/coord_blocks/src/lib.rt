@@ -32,7 +32,7 @@ pub fn place(size: usize, b: usize, block: &[u8], blocks: &mut [u8])
     ensures { blocks.new ≡ with_block size blocks.old b block.now }
 {
     let at = b * size;
-    blocks[at..at + size].copy_from_slice(block);
+    byte_lists::copy(block, &mut blocks[at..at + size]);
 }
 
 // The blocks of these bricks, one after the other.
@@ -115,7 +115,7 @@ fn check_around(
         (block_of size stripe.old j)) stripe.old }
 {
     let mut aside = [0u8; MAX_SIZE];
-    aside[..size].copy_from_slice(block_at(size, j, stripe));
+    byte_lists::copy(block_at(size, j, stripe), &mut aside[..size]);
     let agree = check_from(m, size, bricks, blocks, stripe);
     if agree {
         place(size, j, &aside[..size], stripe);

@@ -81,34 +81,36 @@ struct Round {
 
 impl Round {
     // The newest time of the counted replies.
-    fn newest(self) -> u64
-        ensures { result ≡ highest self.tally.counted self.tally.found self.n }
+    fn newest(&self) -> u64
+        ensures { result ≡ highest self.now.tally.counted self.now.tally.found self.now.n }
     {
         highest_of(self.tally.counted, self.tally.found, self.n)
     }
 
     // Whether a counted reply said no.
-    fn said_no(self) -> bool
-        ensures { result ≡ some (said_no self.tally.counted self.tally.granted) self.n }
+    fn said_no(&self) -> bool
+        ensures { result ≡ some (said_no self.now.tally.counted self.now.tally.granted) self.now.n }
     {
         any_no(self.tally.counted, self.tally.granted, self.n)
     }
 
     // Whether the counted replies differ in their newest times, or one of the targets is not among them.
     #[tactic(auto, unfolding(crate::specs::Deciding::apart))]
-    fn times_apart(self) -> bool
-        ensures { result ≡ apart self.n (target_count self.m self.op.kind) self.op self.tally }
+    fn times_apart(&self) -> bool
+        ensures { result ≡ apart self.now.n (target_count self.now.m self.now.op.kind) self.now.op self.now.tally }
     {
-        let Round { n, m, op, tally } = self;
-        let targets = coord_record::target_count(m, op.kind);
+        let n = self.n;
+        let op = self.op;
+        let tally = &self.tally;
+        let targets = coord_record::target_count(self.m, op.kind);
         any_other(tally.counted, tally.found, self.newest(), n)
             || any_missing(n, targets, op.first, tally.counted)
     }
 
     // What the q-th reply of a Read round decides: a no does not abort it, the read recovers.
     #[tactic(auto, unfolding(crate::specs::Deciding::decided_read, settings::specs::Times::no_upper_end))]
-    fn decide_read(self) -> Decision
-        ensures { result ≡ decided_read self.n self.m self.op self.tally }
+    fn decide_read(&self) -> Decision
+        ensures { result ≡ decided_read self.now.n self.now.m self.now.op self.now.tally }
     {
         if self.said_no() || self.times_apart() {
             return Decision::Look(FIRST_MAX);
@@ -118,8 +120,8 @@ impl Round {
 
     // What the q-th reply of a block write's first round decides, where none said no.
     #[tactic(auto, unfolding(crate::specs::Deciding::decided_block_order, settings::specs::Times::no_upper_end))]
-    fn decide_block_order(self) -> Decision
-        ensures { result ≡ decided_block_order self.n self.m self.op self.tally }
+    fn decide_block_order(&self) -> Decision
+        ensures { result ≡ decided_block_order self.now.n self.now.m self.now.op self.now.tally }
     {
         if self.times_apart() {
             return Decision::Look(FIRST_MAX);
@@ -129,8 +131,8 @@ impl Round {
 
     // What the q-th reply of an Order-and-read round decides, where a block is held and this is the highest time found.
     #[tactic(auto, unfolding(crate::specs::Deciding::decided_at, crate::specs::Deciding::unless_spent))]
-    fn decide_at(self, time: u64) -> Decision
-        ensures { result ≡ decided_at self.n self.m self.op.round self.tally time }
+    fn decide_at(&self, time: u64) -> Decision
+        ensures { result ≡ decided_at self.now.n self.now.m self.now.op.round self.now.tally time }
     {
         if message::LAST_ROUND <= self.op.round {
             return Decision::Abort;
@@ -146,20 +148,20 @@ impl Round {
 
     // What the q-th reply of an Order-and-read round decides, where none said no.
     #[tactic(auto, unfolding(crate::specs::Deciding::decided_recovery))]
-    fn decide_recovery(self) -> Decision
-        ensures { result ≡ decided_recovery self.n self.m self.op self.tally }
+    fn decide_recovery(&self) -> Decision
+        ensures { result ≡ decided_recovery self.now.n self.now.m self.now.op self.now.tally }
     {
-        let Tally { held, found, .. } = self.tally;
+        let held = self.tally.held;
         match message::members_of(held, self.n) {
             0 => Decision::Abort,
-            _ => self.decide_at(highest_of(held, found, self.n)),
+            _ => self.decide_at(highest_of(held, self.tally.found, self.n)),
         }
     }
 
     // What the q-th reply decides.
     #[tactic(auto, unfolding(crate::specs::Deciding::decided))]
-    fn decide(self) -> Decision
-        ensures { result ≡ decided self.n self.m self.op self.tally }
+    fn decide(&self) -> Decision
+        ensures { result ≡ decided self.now.n self.now.m self.now.op self.now.tally }
     {
         match self.op.phase {
             READ => self.decide_read(),
@@ -178,5 +180,6 @@ pub fn decide(n: usize, m: usize, op: Op, tally: Tally) -> Decision
     requires first_lt_n { op.first < n }
     ensures { result ≡ decided n m op tally }
 {
-    Round { n, m, op, tally }.decide()
+    let round = Round { n, m, op, tally };
+    round.decide()
 }

@@ -62,9 +62,9 @@ fn other_no(counted: u8, granted: u8, said: u8) -> bool
 }
 
 // Whether a counted no below n was not that of a full log.
-fn any_other_no(t: Tally, n: usize) -> bool
+fn any_other_no(t: &Tally, n: usize) -> bool
     requires { n ≤ max_bricks }
-    ensures { result ≡ some (said_other t.counted t.granted t.said) n }
+    ensures { result ≡ some (said_other t.now.counted t.now.granted t.now.said) n }
 {
     (0..n).any(|b| other_no(t.counted[b], t.granted[b], t.said[b]))
 }
@@ -79,7 +79,7 @@ pub fn abort_letter(n: usize, op: Op, t: Tally) -> u8
         X
     } else if !message::stores_entry(op.phase) {
         O
-    } else if any_other_no(t, n) {
+    } else if any_other_no(&t, n) {
         W
     } else {
         G

@@ -183,13 +183,13 @@ struct Kept {
 
 impl Tally {
     // What is kept of brick b.
-    fn of(self, b: usize) -> Kept
+    fn of(&self, b: usize) -> Kept
         requires { b < max_bricks }
-        ensures counted { result.counted ≡ get_or self.counted b 0 }
-        ensures granted { result.granted ≡ get_or self.granted b 0 }
-        ensures held { result.held ≡ get_or self.held b 0 }
-        ensures found { result.found ≡ get_or self.found b 0 }
-        ensures said { result.said ≡ get_or self.said b 0 }
+        ensures counted { result.counted ≡ get_or self.now.counted b 0 }
+        ensures granted { result.granted ≡ get_or self.now.granted b 0 }
+        ensures held { result.held ≡ get_or self.now.held b 0 }
+        ensures found { result.found ≡ get_or self.now.found b 0 }
+        ensures said { result.said ≡ get_or self.now.said b 0 }
     {
         Kept {
             counted: self.counted[b],
@@ -258,17 +258,17 @@ impl Round {
 
     // Whether what a tally keeps of a brick is right.
     #[tactic(auto, unfolding(crate::specs::CountedRules::kept_right))]
-    fn kept_right(self, t: Tally, b: usize) -> bool
+    fn kept_right(self, t: &Tally, b: usize) -> bool
         requires { b < max_bricks }
-        ensures { result ≡ kept_right self.n self.targets self.phase self.first t b }
+        ensures { result ≡ kept_right self.n self.targets self.phase self.first t.now b }
     {
         let kept = t.of(b);
         self.entry_right(b, kept) && self.said_right(kept)
     }
 
     // Whether what a tally keeps of each brick is right.
-    fn tally_right(self, t: Tally) -> bool
-        ensures { result ≡ tally_right self.n self.targets self.phase self.first t }
+    fn tally_right(self, t: &Tally) -> bool
+        ensures { result ≡ tally_right self.n self.targets self.phase self.first t.now }
     {
         (0..MAX_BRICKS).all(|b| self.kept_right(t, b))
     }
@@ -428,9 +428,9 @@ fn named_count(m: usize, op: Op) -> usize
 impl Coordinator {
     // Whether the bricks named and the tally keep their rules.
     #[tactic(auto, unfolding(crate::specs::Sound::filled_right))]
-    fn filled_right(self, n: usize, m: usize) -> bool
-        requires { (n ≤ max_bricks) × (self.op.first < n) }
-        ensures { result ≡ filled_right n m self }
+    fn filled_right(&self, n: usize, m: usize) -> bool
+        requires { (n ≤ max_bricks) × (self.now.op.first < n) }
+        ensures { result ≡ filled_right n m self.now }
     {
         let op = self.op;
         let round = Round {
@@ -440,24 +440,24 @@ impl Coordinator {
             first: op.first,
         };
         bricks_right(n, named_count(m, op), self.bricks)
-            && round.tally_right(self.tally)
+            && round.tally_right(&self.tally)
             && message::members_of(self.tally.counted, n) < settings::quorum_of(n, m)
     }
 
     // Whether the record is for these settings and keeps every rule.
     #[tactic(auto, unfolding(crate::specs::Sound::sound_record, crate::specs::Sound::same_geometry))]
-    pub fn sound(self, given: Geometry) -> bool
+    pub fn sound(&self, given: Geometry) -> bool
         requires { given.n ≤ max_bricks }
-        ensures { result ≡ sound_record given.n given.m given.size given.stripes self }
+        ensures { result ≡ sound_record given.n given.m given.size given.stripes self.now }
     {
         self.geometry == given && self.rules_kept(given.n, given.m, given.stripes)
     }
 
     // Whether the record keeps every rule but that of the settings.
     #[tactic(auto, unfolding(crate::specs::Sound::rules_kept, settings::specs::Times::max_count))]
-    fn rules_kept(self, n: usize, m: usize, stripes: usize) -> bool
+    fn rules_kept(&self, n: usize, m: usize, stripes: usize) -> bool
         requires { n ≤ max_bricks }
-        ensures { result ≡ rules_kept n m stripes self }
+        ensures { result ≡ rules_kept n m stripes self.now }
     {
         let op = self.op;
         self.clock.coordinator <= settings::LAST_COORDINATOR

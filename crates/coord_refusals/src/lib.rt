@@ -34,8 +34,8 @@ fn check_volume(volume: Geometry) -> Result<Code, Refusal>
 }
 
 // 3 for a coordinator number above 15.
-fn check_number(c: Coordinator) -> Result<(), Refusal>
-    ensures { refusal_in result ≡ refuse_unless (leb c.clock.coordinator last_coordinator) bad_number }
+fn check_number(c: &Coordinator) -> Result<(), Refusal>
+    ensures { refusal_in result ≡ refuse_unless (leb c.now.clock.coordinator last_coordinator) bad_number }
 {
     refuse_unless(
         c.clock.coordinator <= settings::LAST_COORDINATOR,
@@ -44,8 +44,8 @@ fn check_number(c: Coordinator) -> Result<(), Refusal>
 }
 
 // 6 for a record that is not sound.
-fn check_sound(code: Code, stripes: usize, c: Coordinator) -> Result<(), Refusal>
-    ensures { refusal_in result ≡ refuse_unless (sound_record code.n code.m code.size stripes c) bad_record }
+fn check_sound(code: Code, stripes: usize, c: &Coordinator) -> Result<(), Refusal>
+    ensures { refusal_in result ≡ refuse_unless (sound_record code.n code.m code.size stripes c.now) bad_record }
 {
     refuse_unless(
         c.sound(Geometry {
@@ -63,10 +63,10 @@ fn check_sound(code: Code, stripes: usize, c: Coordinator) -> Result<(), Refusal
 fn check_stripe(
     code: Code,
     stripes: usize,
-    c: Coordinator,
+    c: &Coordinator,
     stripe_number: usize,
 ) -> Result<(), Refusal>
-    ensures { refusal_in result ≡ first_refusal (stripe_checks code.n code.m code.size stripes c stripe_number []) }
+    ensures { refusal_in result ≡ first_refusal (stripe_checks code.n code.m code.size stripes c.now stripe_number []) }
 {
     check_number(c)?;
     settings::check_stripe(stripes, stripe_number)?;
@@ -79,11 +79,11 @@ fn check_stripe(
 fn check_block(
     code: Code,
     stripes: usize,
-    c: Coordinator,
+    c: &Coordinator,
     stripe_number: usize,
     block: usize,
 ) -> Result<(), Refusal>
-    ensures { refusal_in result ≡ first_refusal (block_checks code.n code.m code.size stripes c stripe_number block []) }
+    ensures { refusal_in result ≡ first_refusal (block_checks code.n code.m code.size stripes c.now stripe_number block []) }
 {
     check_number(c)?;
     settings::check_stripe(stripes, stripe_number)?;
@@ -95,12 +95,12 @@ fn check_block(
 #[tactic(auto, unfolding(crate::specs::Checks::write_checks), using(crate::proofs::Laws::RefusedLaws::checks))]
 pub fn check_write(
     volume: Geometry,
-    c: Coordinator,
+    c: &Coordinator,
     stripe_number: usize,
     bytes: usize,
     stripe: usize,
 ) -> Result<(), Refusal>
-    ensures { refusal_in result ≡ first_refusal (write_checks volume.n volume.m volume.size volume.stripes c stripe_number bytes stripe []) }
+    ensures { refusal_in result ≡ first_refusal (write_checks volume.n volume.m volume.size volume.stripes c.now stripe_number bytes stripe []) }
 {
     let code = check_volume(volume)?;
     let data = code.m * code.size;
@@ -112,11 +112,11 @@ pub fn check_write(
 #[tactic(auto, unfolding(crate::specs::Checks::read_checks), using(crate::proofs::Laws::RefusedLaws::checks))]
 pub fn check_read(
     volume: Geometry,
-    c: Coordinator,
+    c: &Coordinator,
     stripe_number: usize,
     first: usize,
 ) -> Result<Code, Refusal>
-    ensures value { refusal_in result ≡ first_refusal (read_checks volume.n volume.m volume.size volume.stripes c stripe_number first []) }
+    ensures value { refusal_in result ≡ first_refusal (read_checks volume.n volume.m volume.size volume.stripes c.now stripe_number first []) }
     ensures code { IfOk result (λ (code : Code). (code.n ≡ volume.n) × (code.m ≡ volume.m) × (code.size ≡ volume.size)) }
 {
     let code = check_volume(volume)?;
@@ -129,11 +129,11 @@ pub fn check_read(
 #[tactic(auto, unfolding(crate::specs::Checks::read_block_checks), using(crate::proofs::Laws::RefusedLaws::checks))]
 pub fn check_read_block(
     volume: Geometry,
-    c: Coordinator,
+    c: &Coordinator,
     stripe_number: usize,
     block: usize,
 ) -> Result<Code, Refusal>
-    ensures value { refusal_in result ≡ first_refusal (read_block_checks volume.n volume.m volume.size volume.stripes c stripe_number block []) }
+    ensures value { refusal_in result ≡ first_refusal (read_block_checks volume.n volume.m volume.size volume.stripes c.now stripe_number block []) }
     ensures code { IfOk result (λ (code : Code). (code.n ≡ volume.n) × (code.m ≡ volume.m) × (code.size ≡ volume.size)) }
 {
     let code = check_volume(volume)?;
@@ -145,13 +145,13 @@ pub fn check_read_block(
 #[tactic(auto, unfolding(crate::specs::Checks::write_block_checks), using(crate::proofs::Laws::RefusedLaws::checks))]
 pub fn check_write_block(
     volume: Geometry,
-    c: Coordinator,
+    c: &Coordinator,
     stripe_number: usize,
     block: usize,
     bytes: usize,
     stripe: usize,
 ) -> Result<(), Refusal>
-    ensures { refusal_in result ≡ first_refusal (write_block_checks volume.n volume.m volume.size volume.stripes c stripe_number block bytes stripe []) }
+    ensures { refusal_in result ≡ first_refusal (write_block_checks volume.n volume.m volume.size volume.stripes c.now stripe_number block bytes stripe []) }
 {
     let code = check_volume(volume)?;
     refuse_unless(
@@ -181,14 +181,14 @@ fn lengths_right(
 #[tactic(auto, unfolding(crate::specs::Checks::take_refusal), using(crate::proofs::Laws::RefusedLaws::checks))]
 pub fn check_take(
     volume: Geometry,
-    c: Coordinator,
+    c: &Coordinator,
     reply: Reply,
     block: usize,
     blocks: usize,
     stripe: usize,
     coded: usize,
 ) -> Result<Code, Refusal>
-    ensures value { refusal_in result ≡ take_refusal volume.n volume.m volume.size volume.stripes c reply block blocks stripe coded }
+    ensures value { refusal_in result ≡ take_refusal volume.n volume.m volume.size volume.stripes c.now reply block blocks stripe coded }
     ensures code { IfOk result (λ (code : Code). (code.n ≡ volume.n) × (code.m ≡ volume.m) × (code.size ≡ volume.size)) }
 {
     let code = check_volume(volume)?;
@@ -203,9 +203,9 @@ pub fn check_take(
 
 // What refuses a reply of a brick below n.
 #[tactic(auto, unfolding(crate::specs::Checks::stray_checks, crate::specs::Checks::stripe_checks), using(crate::proofs::Laws::RefusedLaws::stray))]
-fn check_stray(code: Code, stripes: usize, c: Coordinator, reply: Reply) -> Result<(), Refusal>
+fn check_stray(code: Code, stripes: usize, c: &Coordinator, reply: Reply) -> Result<(), Refusal>
     requires { reply.brick < code.n }
-    ensures { refusal_in result ≡ first_refusal (stray_checks code.n code.m code.size stripes c reply) }
+    ensures { refusal_in result ≡ first_refusal (stray_checks code.n code.m code.size stripes c.now reply) }
 {
     check_stripe(code, stripes, c, reply.stripe)?;
     reply.check(code.n)?;
@@ -217,8 +217,8 @@ fn check_stray(code: Code, stripes: usize, c: Coordinator, reply: Reply) -> Resu
 
 // What refuses a crash.
 #[tactic(auto, unfolding(crate::specs::Checks::crash_refusal, crate::specs::Checks::record_checks), using(crate::proofs::Laws::RefusedLaws::checks))]
-pub fn check_crash(volume: Geometry, c: Coordinator) -> Result<(), Refusal>
-    ensures { refusal_in result ≡ crash_refusal volume.n volume.m volume.size volume.stripes c }
+pub fn check_crash(volume: Geometry, c: &Coordinator) -> Result<(), Refusal>
+    ensures { refusal_in result ≡ crash_refusal volume.n volume.m volume.size volume.stripes c.now }
 {
     let code = check_volume(volume)?;
     check_number(c)?;

@@ -94,7 +94,7 @@ pub fn start_write(
     ensures { (blocks coded : List ℕ) → returned (answer_in c result) blocks stripe.new coded
         ≡ write_call volume.n volume.m volume.size volume.stripes c blocks stripe.old coded stripe_number reading bytes.now }
 {
-    coord_refusals::check_write(volume, c, stripe_number, bytes.len(), stripe.len())?;
+    coord_refusals::check_write(volume, &c, stripe_number, bytes.len(), stripe.len())?;
     let answer = start(
         c,
         reading,
@@ -103,9 +103,12 @@ pub fn start_write(
         stripe_number,
         0,
         [0u8; MAX_BRICKS],
-    )?;
-    stripe.copy_from_slice(bytes);
-    Ok(answer)
+    );
+    if answer.is_err() {
+        return answer;
+    }
+    byte_lists::copy(bytes, stripe);
+    answer
 }
 
 // Starts a read of a stripe, by its number, whose targets are counted upward from a brick. Refused: 1 settings, 3 the brick or the
@@ -120,7 +123,7 @@ pub fn start_read(
     ensures { (blocks stripe coded : List ℕ) → returned (answer_in c result) blocks stripe coded
         ≡ read_call volume.n volume.m volume.size volume.stripes c blocks stripe coded stripe_number reading first }
 {
-    let code = coord_refusals::check_read(volume, c, stripe_number, first)?;
+    let code = coord_refusals::check_read(volume, &c, stripe_number, first)?;
     let targets = coord_tally::target_flags(code.n, code.m, first);
     start(c, reading, READING, READ, stripe_number, first, targets)
 }
@@ -140,7 +143,7 @@ pub fn start_write_block(
     ensures { (blocks coded : List ℕ) → returned (answer_in c result) blocks stripe.new coded
         ≡ write_block_call volume.n volume.m volume.size volume.stripes c blocks stripe.old coded stripe_number reading block bytes.now }
 {
-    coord_refusals::check_write_block(volume, c, stripe_number, block, bytes.len(), stripe.len())?;
+    coord_refusals::check_write_block(volume, &c, stripe_number, block, bytes.len(), stripe.len())?;
     let targets = [0u8; MAX_BRICKS];
     let begun = start(
         c,
@@ -150,9 +153,12 @@ pub fn start_write_block(
         stripe_number,
         block,
         targets,
-    )?;
+    );
+    if begun.is_err() {
+        return begun;
+    }
     coord_blocks::place(volume.size, block, bytes, stripe);
-    Ok(begun)
+    begun
 }
 
 // Starts a read of one block of a stripe, by their numbers: that block's brick is the only target. Refused: 1 settings, 3 the coordinator's
@@ -167,7 +173,7 @@ pub fn start_read_block(
     ensures { (blocks stripe coded : List ℕ) → returned (answer_in c result) blocks stripe coded
         ≡ read_block_call volume.n volume.m volume.size volume.stripes c blocks stripe coded stripe_number reading block }
 {
-    let code = coord_refusals::check_read_block(volume, c, stripe_number, block)?;
+    let code = coord_refusals::check_read_block(volume, &c, stripe_number, block)?;
     let targets = coord_tally::target_flags(code.n, message::BLOCK_TARGETS, block);
     start(
         c,
@@ -185,7 +191,7 @@ pub fn crash(volume: Geometry, c: Coordinator) -> Result<Answer, Refusal>
     ensures { (blocks stripe coded : List ℕ) → returned (answer_in c result) blocks stripe coded
         ≡ crash_call volume.n volume.m volume.size volume.stripes c blocks stripe coded }
 {
-    coord_refusals::check_crash(volume, c)?;
+    coord_refusals::check_crash(volume, &c)?;
     if c.op.kind == IDLE {
         return Ok(kept(c));
     }
@@ -216,7 +222,7 @@ pub fn take_reply(
 {
     let code = coord_refusals::check_take(
         volume,
-        c,
+        &c,
         reply,
         block.len(),
         blocks.len(),

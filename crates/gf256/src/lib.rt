@@ -67,6 +67,16 @@ pub fn logs() -> [u8; BYTE_COUNT]
     LOGS
 }
 
+// The sum of two bytes' logarithms, in 16 bits.
+#[tactic(auto, using(crate::proofs::Laws::LookupLaws::log_below), unfolding(crate::specs::LogSums::log_sum))]
+fn log_sum(logs: &[u8; BYTE_COUNT], a: u8, b: u8) -> u16
+    requires { IsLogs logs.now }
+    ensures value { result ≡ log_sum logs.now a b }
+    ensures upper_bound { result ≤ max_log_sum }
+{
+    logs[a as usize] as u16 + logs[b as usize] as u16
+}
+
 // The power at a sum of two logarithms: from 255 on that at 255 less.
 #[tactic(auto, unfolding(crate::specs::LogSums::folded))]
 fn power_at(powers: &[u8; POWER_COUNT], sum: u16) -> u8
@@ -79,6 +89,36 @@ fn power_at(powers: &[u8; POWER_COUNT], sum: u16) -> u8
     powers[sum as usize - POWER_COUNT]
 }
 
+// The product by lent tables: two loads, a sum in 16 bits, a load.
+#[tactic(auto, using(crate::proofs::Laws::LookupLaws::looked_up))]
+pub fn mul_by(powers: &[u8; POWER_COUNT], logs: &[u8; BYTE_COUNT], a: u8, b: u8) -> u8
+    requires powers { IsPowers powers.now }
+    requires logs { IsLogs logs.now }
+    ensures value { result ≡ product a b }
+    ensures value_2 { result ≡ product_in sum_bits powers.now logs.now a b }
+{
+    if a == 0 {
+        return 0;
+    }
+    if b == 0 {
+        return 0;
+    }
+    power_at(powers, log_sum(logs, a, b))
+}
+
+// The inverse by lent tables; 0 for 0.
+#[tactic(auto, using(crate::proofs::Laws::LookupLaws::of_zero, crate::proofs::Laws::LookupLaws::log_below, crate::proofs::Laws::LookupLaws::inverse_at))]
+pub fn inv_by(powers: &[u8; POWER_COUNT], logs: &[u8; BYTE_COUNT], a: u8) -> u8
+    requires powers { IsPowers powers.now }
+    requires logs { IsLogs logs.now }
+    ensures { result ≡ inverse a }
+{
+    if a == 0 {
+        return 0;
+    }
+    power_at(powers, CYCLE - logs[a as usize] as u16)
+}
+
 // The two tables, to be lent to many products: a constant array is built anew in each function that names it.
 #[derive(Drop)]
 pub struct Tables {
@@ -89,46 +129,29 @@ pub struct Tables {
 }
 
 impl Tables {
-    pub fn new() -> Self {
+    pub fn new() -> Self
+        ensures powers { IsPowers result.powers }
+        ensures logs { IsLogs result.logs }
+    {
         Tables {
             powers: powers(),
             logs: logs(),
         }
     }
 
-    // The sum of two bytes' logarithms, in 16 bits.
-    #[tactic(auto, using(crate::proofs::Laws::LookupLaws::log_below), unfolding(crate::specs::LogSums::log_sum))]
-    fn log_sum(&self, a: u8, b: u8) -> u16
-        ensures value { result ≡ log_sum self.now.logs a b }
-        ensures upper_bound { result ≤ max_log_sum }
-    {
-        self.logs[a as usize] as u16 + self.logs[b as usize] as u16
-    }
-
-    // The product: two loads, a sum in 16 bits, a load.
-    #[tactic(auto, using(crate::proofs::Laws::LookupLaws::looked_up))]
+    // The product.
     pub fn mul(&self, a: u8, b: u8) -> u8
         ensures value { result ≡ product a b }
         ensures value_2 { result ≡ product_in sum_bits self.now.powers self.now.logs a b }
     {
-        if a == 0 {
-            return 0;
-        }
-        if b == 0 {
-            return 0;
-        }
-        power_at(&self.powers, self.log_sum(a, b))
+        mul_by(&self.powers, &self.logs, a, b)
     }
 
     // The inverse; 0 for 0.
-    #[tactic(auto, using(crate::proofs::Laws::LookupLaws::of_zero, crate::proofs::Laws::LookupLaws::log_below, crate::proofs::Laws::LookupLaws::inverse_at))]
     pub fn inv(&self, a: u8) -> u8
         ensures { result ≡ inverse a }
     {
-        if a == 0 {
-            return 0;
-        }
-        power_at(&self.powers, CYCLE - self.logs[a as usize] as u16)
+        inv_by(&self.powers, &self.logs, a)
     }
 
     // A byte with its doublings.
@@ -181,14 +204,18 @@ impl Multiples {
 pub fn mul(a: u8, b: u8) -> u8
     ensures { result ≡ product a b }
 {
-    Tables::new().mul(a, b)
+    let p = powers();
+    let l = logs();
+    mul_by(&p, &l, a, b)
 }
 
 // The inverse of a byte; 0 for 0.
 pub fn inv(a: u8) -> u8
     ensures { result ≡ inverse a }
 {
-    Tables::new().inv(a)
+    let p = powers();
+    let l = logs();
+    inv_by(&p, &l, a)
 }
 
 // The quotient of two bytes; by 0 it is 0.
@@ -196,6 +223,8 @@ pub fn inv(a: u8) -> u8
 pub fn div(a: u8, b: u8) -> u8
     ensures { result ≡ quotient a b }
 {
-    let tables = Tables::new();
-    tables.mul(a, tables.inv(b))
+    let p = powers();
+    let l = logs();
+    let c = inv_by(&p, &l, b);
+    mul_by(&p, &l, a, c)
 }

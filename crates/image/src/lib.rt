@@ -66,20 +66,19 @@ pub fn place_of(h: Holding) -> usize
 }
 
 // The block of the image that an entry of the working log means: its own, or of a mark that of the entry below it.
-#[tactic(auto, unfolding(crate::proofs::Laws::HolderLaws::holder_below))]
 pub fn holder_of(log: [Entry; MAX_CAPACITY], i: usize) -> usize
     requires { i < max_capacity }
     ensures { result ≡ holder_of log i }
 {
-    let mut holder = 0;
-    for k in 0..i + 1 {
+    for k in (1..i + 1).rev() {
         let entry = log[k];
         let place = place_of(entry.holding);
         if place != 0 {
-            holder = place;
+            return place;
         }
     }
-    holder
+    let lowest = log[0];
+    place_of(lowest.holding)
 }
 
 // Whether a number is 0 or a valid time.

@@ -214,9 +214,9 @@ fn put_row<T: Copy>(row: [T; MAX_BRICKS], at: usize, out: &mut [T])
 }
 
 // The numbers of a record.
-fn put_numbers(c: Coordinator, out: &mut [u64])
+fn put_numbers(c: &Coordinator, out: &mut [u64])
     requires { length out.old ≡ record_numbers_length }
-    ensures { out.new ≡ record_numbers c }
+    ensures { out.new ≡ record_numbers c.now }
 {
     out[COORDINATOR] = c.clock.coordinator;
     out[LAST] = c.clock.last;
@@ -233,9 +233,9 @@ fn put_numbers(c: Coordinator, out: &mut [u64])
 }
 
 // The bytes of a record.
-fn put_bytes(c: Coordinator, out: &mut [u8])
+fn put_bytes(c: &Coordinator, out: &mut [u8])
     requires { length out.old ≡ record_bytes_length }
-    ensures { out.new ≡ record_bytes c }
+    ensures { out.new ≡ record_bytes c.now }
 {
     out[KIND] = c.op.kind;
     out[PHASE] = c.op.phase;
@@ -247,9 +247,9 @@ fn put_bytes(c: Coordinator, out: &mut [u8])
 }
 
 // The numbers of an answer.
-fn put_sent(a: Answer, out: &mut [u64])
+fn put_sent(a: &Answer, out: &mut [u64])
     requires { length out.old ≡ answer_numbers_length }
-    ensures { out.new ≡ answer_numbers (answered a) }
+    ensures { out.new ≡ answer_numbers (answered a.now) }
 {
     out[SENT] = a.sent as u64;
     out[MESSAGE_TIME] = a.message.time;
@@ -270,9 +270,9 @@ fn put_sent(a: Answer, out: &mut [u64])
 }
 
 // The bytes of an answer.
-fn put_shown(a: Answer, out: &mut [u8])
+fn put_shown(a: &Answer, out: &mut [u8])
     requires { length out.old ≡ answer_bytes_length }
-    ensures { out.new ≡ answer_bytes (answered a) }
+    ensures { out.new ≡ answer_bytes (answered a.now) }
 {
     out[MESSAGE_KIND] = a.message.kind;
     out[SEEN_WHAT] = a.seen.what;
@@ -303,10 +303,10 @@ fn put_answer(
     let Ok(a) = answer else {
         return answer.unwrap_err().number();
     };
-    put_numbers(a.next, numbers);
-    put_bytes(a.next, bytes);
-    put_sent(a, sent);
-    put_shown(a, shown);
+    put_numbers(&a.next, numbers);
+    put_bytes(&a.next, bytes);
+    put_sent(&a, sent);
+    put_shown(&a, shown);
     settings::PASSED
 }
 

@@ -7,12 +7,12 @@ use Rattle.bench_carry.proofs.carry_one.Goals as goal
 pub returns-then-number-eq0 : goal.returns-then-number-eq0
 returns-then-number-eq0 c =
     let l = lent c.args.images.now c.args.kept.now c.args.numbers.now c.args.bytes.now in
-    carried_zero c.args.b l c.args.at c.args.out.now _ l _ c.args.number c.if-number-eq0.true (c.refuse.ensures l)
+    carried_zero c.args.b l c.args.at c.args.out.now _ l _ c.args.number c.if-number-eq0.true (c.refuse_as.ensures l)
 
 pub returns-then-b-last : goal.returns-then-b-last
 returns-then-b-last c =
     let l = lent c.args.images.now c.args.kept.now c.args.numbers.now c.args.bytes.now in
-    carried_past c.args.b l c.args.at c.args.out.now _ l _ c.args.number c.if-b-last.true (c.refuse-then-b-last.ensures l)
+    carried_past c.args.b l c.args.at c.args.out.now _ l _ c.args.number c.if-b-last.true (c.refuse_as-then-b-last.ensures l)
 
 pub carry_reply-requires : goal.carry_reply-requires
 carry_reply-requires c =

@@ -29,10 +29,10 @@ returns-in-Ok-None c =
     settled_silent c.args.b c.args.block.now c.args.numbers.now c.args.bytes.now c.args.at c.args.out.now _ e
     (room_any _ _ c.requires.g_bound.0)
 
-pub refuse-requires : goal.refuse-requires
-refuse-requires c = (room_any _ _ c.requires.g_bound.0, c.requires.numbers_len.2)
+pub refuse_as-requires : goal.refuse_as-requires
+refuse_as-requires c = (room_any _ _ c.requires.g_bound.0, c.requires.numbers_len.2)
 
 pub returns-in-Err : goal.returns-in-Err
 returns-in-Err c =
     let e : given_in c.args.given ≡ Refused (number_of_refusal c.in-Err.refusal) = search rules in
-    settled_refused _ _ _ _ _ _ _ _ _ _ e c.refuse.ensures
+    settled_refused _ _ _ _ _ _ _ _ _ _ e c.refuse_as.ensures

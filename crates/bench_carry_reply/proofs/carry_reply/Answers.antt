@@ -20,7 +20,7 @@ twice_long k x y rest room h f e = f ∙ ap length (front_is k x rest room h e) 
 
 pub returns-then-c-ge-COORDINATORS : goal.returns-then-c-ge-COORDINATORS
 returns-then-c-ge-COORDINATORS c =
-    reply_past _ c.args.k _ _ _ _ _ _ _ c.requires.k_lt_sent.1 c.reply_at-reply.ensures _ c.if-c-ge-COORDINATORS.true c.refuse.ensures
+    reply_past _ c.args.k _ _ _ _ _ _ _ c.requires.k_lt_sent.1 c.reply_at-reply.ensures _ c.if-c-ge-COORDINATORS.true c.refuse_as.ensures
 
 pub commit-requires-clause-lists : goal.commit-requires-clause-lists
 unfolding geometry_of

@@ -8,4 +8,4 @@ pub returns-in_default : goal.returns-in_default
 returns-in_default c = λ old.
     rw c.unwrap_err.ensures
     (answers_refused _ _ _ _ _ _ _ _ _ _ _ c.requires.seats _ _
-    (λ (z : number_of_refusal c.unwrap_err.result ≡ 0). let p = number_positive c.unwrap_err.result in omega arith) c.refuse.ensures)
+    (λ (z : number_of_refusal c.unwrap_err.result ≡ 0). let p = number_positive c.unwrap_err.result in omega arith) c.refuse_as.ensures)

@@ -142,6 +142,11 @@ module _ (chunk : List ℕ) (from : ℕ) (line : List ℕ) (held : ℕ) where
       (subst (λ (rest : List ℕ). CutOff rest from line held (record { next = from + length rest; held = r; whole = false }) line') (take_rest chunk from)
       (cut_all (take (length chunk - from) (drop from chunk)) from line held r line' n kept))
 
+-- What is still to be cut off gives the whole.
+pub record Still (chunk : List ℕ) (from : ℕ) (old : List ℕ) (held : ℕ) (line : List ℕ) (at k : ℕ) : Type 0 where
+  pub size : length line ≡ length old
+  pub gives : (r : Cut) (l : List ℕ) → CutOff (drop at chunk) at line k r l → CutOff (drop from chunk) from old held r l
+
 -- What callers use of a call: the buffer keeps its length, and the held bytes fit into it; a call before the chunk's end goes on.
 module _ (rest line : List ℕ) (held at : ℕ) (r : Cut) (line' : List ℕ) (h : held ≤ length line) (c : CutOff rest at line held r line') where
   pub moved_fits : held + length (fitting (length line) held (before_newline rest)) ≤ length line

@@ -19,9 +19,9 @@ returns-in-Ok c =
 pub returns-in-Err : goal.returns-in-Err
 returns-in-Err c =
     first_bad c.args.b c.args.out.now _ _ c.requires.n_value.0 _ _ _ _ (number_of_refusal c.in-Err.refusal) (reads c.args.line.now) c.args.images.now c.args.kept.now
-    (said_set c.args.l c.args.line.now c.requires.line_value.0 _ _ _ _ c.in-Set.is) c.in-Err.ensures (has_number c.in-Err.refusal) c.refuse.ensures
+    (said_set c.args.l c.args.line.now c.requires.line_value.0 _ _ _ _ c.in-Set.is) c.in-Err.ensures (has_number c.in-Err.refusal) c.refuse_as.ensures
 
 pub returns-in_default : goal.returns-in_default
 returns-in_default c =
-    first_other c.args.b c.args.out.now _ _ c.requires.n_value.0 c.args.images.now c.args.kept.now c.refuse-in_default.ensures c.args.l c.args.line.now
+    first_other c.args.b c.args.out.now _ _ c.requires.n_value.0 c.args.images.now c.args.kept.now c.refuse_as-in_default.ensures c.args.l c.args.line.now
     c.requires.line_value.0 c.requires.line_value.1 (λ n m size capacity e. search (rules, c.in_default.not-Set))

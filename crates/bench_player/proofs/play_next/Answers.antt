@@ -8,7 +8,7 @@ pub returns-in-Set : goal.returns-in-Set
 returns-in-Set c =
     let l = lent c.args.images.now c.args.kept.now c.args.numbers.now c.args.bytes.now in
     line_set c.args.b l _ c.args.out.now _ _ (reads c.args.line.now) _ _ _ _
-    (said_set c.args.l c.args.line.now c.requires.line_value.0 _ _ _ _ c.in-Set.is) (c.refuse.ensures l)
+    (said_set c.args.l c.args.line.now c.requires.line_value.0 _ _ _ _ c.in-Set.is) (c.refuse_as.ensures l)
 
 pub returns-in-Write : goal.returns-in-Write
 returns-in-Write c =
@@ -50,7 +50,7 @@ pub returns-in-Unread : goal.returns-in-Unread
 returns-in-Unread c =
     let l = lent c.args.images.now c.args.kept.now c.args.numbers.now c.args.bytes.now in
     line_nothing c.args.b l _ c.args.out.now _ _ (reads c.args.line.now)
-    (said_nothing c.args.l c.args.line.now c.requires.line_value.0 c.in-Unread.is) (c.refuse-in-Unread.ensures l)
+    (said_nothing c.args.l c.args.line.now c.requires.line_value.0 c.in-Unread.is) (c.refuse_as-in-Unread.ensures l)
 
 pub write_at-requires-clause-hex_in_bounds : goal.write_at-requires-clause-hex_in_bounds
 write_at-requires-clause-hex_in_bounds c = (hex_place c.args.l c.args.line.now _ _ _ c.in-Write.is c.requires.line_value.1).within

@@ -7,7 +7,7 @@ use Rattle.coord_record.specs.Records.{geometry_of}
 use Rattle.bench_start.proofs.read_at.Goals as goal
 
 pub returns-then-c-ge-COORDINATORS : goal.returns-then-c-ge-COORDINATORS
-returns-then-c-ge-COORDINATORS c = read_past _ _ _ _ _ _ _ _ _ _ _ (omega (arith, c.if-c-ge-COORDINATORS.true)) c.refuse.ensures
+returns-then-c-ge-COORDINATORS c = read_past _ _ _ _ _ _ _ _ _ _ _ (omega (arith, c.if-c-ge-COORDINATORS.true)) c.refuse_as.ensures
 
 pub commit-requires-clause-lists : goal.commit-requires-clause-lists
 unfolding geometry_of

@@ -10,7 +10,7 @@ use Rattle.coord_record.specs.Records.{geometry_of}
 use Rattle.bench_start.proofs.write_at.Goals as goal
 
 pub returns-then-c-ge-COORDINATORS : goal.returns-then-c-ge-COORDINATORS
-returns-then-c-ge-COORDINATORS c = write_past _ _ _ _ _ _ _ _ _ _ _ (omega (arith, c.if-c-ge-COORDINATORS.true)) c.refuse.ensures
+returns-then-c-ge-COORDINATORS c = write_past _ _ _ _ _ _ _ _ _ _ _ (omega (arith, c.if-c-ge-COORDINATORS.true)) c.refuse_as.ensures
 
 pub returns-then-is_short : goal.returns-then-is_short
 unfolding geometry_of
@@ -26,7 +26,7 @@ returns-then-is_short c =
     _ digits _ _ c.read_content-right.result _
     (front_is _ _ _ (replicate stripe_room 0) fit.stripe-fits c.read_content-right.auto.content ∙ content_is _ digits _ _ _ z q.value q.content_after)
     (count_is _ digits _ c.read_content-right.new.content _ z q.value)
-    (rw c.geometry_of.ensures at c.start_write-a.ensures) (sym (c.is_short.ensures c.coordinator_at-old.result) ∙ c.if-is_short.true) c.refuse-then-is_short.ensures)
+    (rw c.geometry_of.ensures at c.start_write-a.ensures) (sym (c.is_short.ensures c.coordinator_at-old.result) ∙ c.if-is_short.true) c.refuse_as-then-is_short.ensures)
 
 pub commit-requires-clause-lists : goal.commit-requires-clause-lists
 unfolding geometry_of

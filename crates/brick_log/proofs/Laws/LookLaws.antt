@@ -26,6 +26,11 @@ use Rattle.settings.specs.Ranges.{max_capacity}
 use Rattle.std.specs.List.{prefix_len}
 use Rattle.std.specs.Prelude.{Some, None}
 
+-- the last place that a test takes, turn by turn, from the newest down: it is here
+pub last_found : (p : ℕ → Bool) (n i entry_count : ℕ) → n ≡ suc i → p i ≡ true → last_in p n ≡ last_in p entry_count → Some i ≡ looked_in (last_in p entry_count)
+unfolding last_in looked_in
+last_found p n i entry_count e h w = sym (ap (λ (k : ℕ). looked_in (last_in p k)) e ∙ rw h refl) ∙ ap looked_in w
+
 -- the test takes the last place that it takes,
 pub last_takes : (p : ℕ → Bool) (n i : ℕ) → last_in p n ≡ suc i → (i < n) × (p i ≡ true)
 unfolding last_in

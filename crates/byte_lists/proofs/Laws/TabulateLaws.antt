@@ -67,6 +67,9 @@ filled_keep f old out k h e =
 pub filled_all : (f : ℕ → ℕ) (old out : List ℕ) (k : ℕ) → Filled f old out k → length old ≤ k → out ≡ tabulate (length old) f
 filled_all f old out k h l = tabulate_by (length old) f out h.size (λ i u. h.done i (omega arith))
 
+pub filled_copy : (from old out : List ℕ) (k : ℕ) → Filled (λ (p : ℕ). get_or from p 0) old out k → length old ≤ k → length from ≡ length old → out ≡ from
+filled_copy from old out k h l e = ext_get_or 0 out from (h.size ∙ sym e) (λ i u. h.done i (let z = h.size in omega arith))
+
 -- blocks of one size in a row
 pub length_stacked : (k size : ℕ) (f : ℕ → List ℕ) → ((i : ℕ) → length (f i) ≡ size) → length (stacked k f) ≡ k * size
 unfolding stacked

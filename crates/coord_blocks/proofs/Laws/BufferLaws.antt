@@ -1,5 +1,6 @@
 -- Blocks in their places: put, cut out, gathered.
 use mathlib.Core.Path.{◌≡◌, refl, sym, ap, subst, ◌∙◌}
+use mathlib.Core.Bool.{Bool, cond}
 use mathlib.Core.List.{List, ◌++◌}
 use Prim.Native.Nat.{ℕ, zero, suc, ◌+◌, ◌-◌, ◌*◌, ◌≤◌, ◌<◌}
 use native.Mathlib.Decide.{dec_lt}
@@ -80,6 +81,16 @@ pub ruleset gathering = (gathered_none, gathered_more, gathered_all)
 -- the blocks gathered at the front of a longer buffer
 pub front_is : (k : ℕ) (ys rest : List ℕ) → length ys ≡ k → take k (ys ++ rest) ≡ ys
 front_is k ys rest e = take_at ys rest k e
+
+-- the stripe of what was gathered there, where it agrees
+module _ (m size k : ℕ) (bricks blocks row rest : List ℕ) (e : length row ≡ k * size) (g : row ≡ blocks_of size blocks (take k bricks)) where
+  handed : take (k * size) (row ++ rest) ≡ blocks_of size blocks (take k bricks)
+  handed = front_is (k * size) row rest e ∙ g
+
+  pub checked_is : (b : Bool) (s old : List ℕ) → s ≡ cond b (decoded_of m size (take k bricks) (take (k * size) (row ++ rest))) old
+      → s ≡ cond b (stripe_from m size (take k bricks) blocks) old
+  unfolding stripe_from
+  checked_is b s old q = q ∙ ap (λ (l : List ℕ). cond b (decoded_of m size (take k bricks) l) old) handed
 
 -- bricks below n have their blocks among n
 pub in_place : (n m size : ℕ) (bricks blocks : List ℕ) → length blocks ≡ n * size → ((i : ℕ) → i < m → get_or bricks i 0 < n) → InPlace m size bricks blocks

@@ -8,4 +8,4 @@ use Rattle.byte_lists.proofs.Laws.OverRangeLaws.{some_from_any}
 pub returns : goal.returns
 unfolding said_other said_no member
 returns c =
-    some_from_any (said_other c.args.t.counted c.args.t.granted c.args.t.said) c.args.n _ _ _ c.any.ensures.ran refl (λ x b q k. search rules)
+    some_from_any (said_other c.args.t.now.counted c.args.t.now.granted c.args.t.now.said) c.args.n _ _ _ c.any.ensures.ran refl (λ x b q k. search rules)

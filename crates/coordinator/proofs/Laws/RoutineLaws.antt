@@ -1,7 +1,7 @@
 -- Laws of `specs/Routines`: what passing the checks says, and the ways through each routine.
-use Rattle.std.specs.Prelude.{Result, Ok, Err, IsErrAnd}
+use Rattle.std.specs.Prelude.{Result, Ok, Err, IsErrAnd, is_err}
 use mathlib.Core.Path.{◌≡◌, refl, sym, ap, subst, ◌∙◌}
-use mathlib.Core.Bool.{Bool, true, false, cond, not, ◌&&◌, ◌||◌}
+use mathlib.Core.Bool.{Bool, true, false, cond, not, ◌&&◌, ◌||◌, true≢false}
 use mathlib.Core.List.{List, [], ◌++◌}
 use Prim.Native.Nat.{ℕ, zero, suc, ◌+◌, ◌*◌, ◌≤◌, ◌<◌}
 use native.Mathlib.Nat.{mul-le-mul_right, suc-mul}
@@ -353,6 +353,17 @@ module _ (l : List ℕ) (c : Coordinator) (reading kind phase number first : ℕ
         → eqb phase write_kind ≡ false → returned (answer_in c x) blocks stripe coded ≡ start_call
     start_answered (Ok a) q es p = start_begun a stripe q es p
     start_answered (Err r) q es p = start_stopped r q
+
+    -- where the stripe is written only after a start that was not refused
+    pub start_denied : (x : Result Code.Answer Refusal) → is_err x ≡ true → answer_in c x ≡ started c reading kind phase number first targets
+        → returned (answer_in c x) blocks stripe coded ≡ start_call
+    start_denied (Ok a) e q = absurd (true≢false (sym e))
+    start_denied (Err r) e q = start_stopped r q
+
+    pub start_written : (x : Result Code.Answer Refusal) (stripe' : List ℕ) → is_err x ≡ false → answer_in c x ≡ started c reading kind phase number first targets
+        → stripe' ≡ kept → eqb phase write_kind ≡ false → returned (answer_in c x) blocks stripe' coded ≡ start_call
+    start_written (Ok a) stripe' e q es p = start_begun a stripe' q es p
+    start_written (Err r) stripe' e q es p = absurd (true≢false e)
 
 -- each of the four is such a start
 module _ (n m size stripes : ℕ) (c : Coordinator) (number reading : ℕ) (blocks stripe coded : List ℕ) (x : Returned) where

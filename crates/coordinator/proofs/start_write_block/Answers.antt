@@ -1,7 +1,7 @@
-use Rattle.coordinator.proofs.Laws.RoutineLaws.{passed_on, write_block_call_lem, start_refused, start_stopped, start_begun, block_fits, write_block_passed}
+use Rattle.coordinator.proofs.Laws.RoutineLaws.{passed_on, write_block_call_lem, start_refused, start_denied, start_written, block_fits, write_block_passed}
 use Rattle.coord_record.specs.Records.{no_bricks}
 use native.Mathlib.Omega.{arith}
-use mathlib.Core.Path.{refl}
+use mathlib.Core.Path.{refl, sym, ◌∙◌}
 use Rattle.coordinator.proofs.start_write_block.Goals as goal
 
 pub returns-in_err-check_write_block : goal.returns-in_err-check_write_block
@@ -9,12 +9,11 @@ returns-in_err-check_write_block c = λ blocks coded.
     rw (passed_on _ _ c.from_residual.ensures.1)
     (write_block_call_lem _ _ _ _ _ _ _ blocks _ coded _ _ _ (start_refused _ _ _ _ _ _ _ blocks _ coded _ _ _ c.in_err-check_write_block.ensures))
 
-pub returns-in_err-begun : goal.returns-in_err-begun
+pub returns-then-is_err : goal.returns-then-is_err
 unfolding no_bricks
-returns-in_err-begun c = λ blocks coded.
-    rw (passed_on _ _ c.from_residual-in_err-begun.ensures.1)
-    (write_block_call_lem _ _ _ _ _ _ _ blocks _ coded _ _ _
-    (start_stopped _ _ _ _ _ _ _ blocks _ coded _ _ c.in_ok-check_write_block.ensures _ c.in_err-begun.ensures))
+returns-then-is_err c = λ blocks coded.
+    write_block_call_lem _ _ _ _ _ _ _ blocks _ coded _ _ _
+    (start_denied _ _ _ _ _ _ _ blocks _ coded _ _ c.in_ok-check_write_block.ensures _ (sym c.is_err.ensures.value ∙ c.if-is_err.true) c.start-begun.ensures)
 
 pub place-requires : goal.place-requires
 place-requires c =
@@ -25,4 +24,5 @@ pub returns : goal.returns
 unfolding no_bricks
 returns c = λ blocks coded.
     write_block_call_lem _ _ _ _ _ _ _ blocks _ coded _ _ _
-    (start_begun _ _ _ _ _ _ _ blocks _ coded _ _ c.in_ok-check_write_block.ensures _ _ c.in_ok-begun.ensures c.place.ensures refl)
+    (start_written _ _ _ _ _ _ _ blocks _ coded _ _ c.in_ok-check_write_block.ensures _ _ (sym c.is_err.ensures.value ∙ c.if-is_err.false) c.start-begun.ensures
+    c.place.ensures refl)

@@ -4,7 +4,6 @@ use mathlib.Core.Bool.{Bool, true, false}
 use mathlib.Core.List.{List}
 use Prim.Native.Nat.{ℕ, zero, suc, ◌+◌, ◌-◌, ◌≤◌, ◌<◌}
 use native.Mathlib.Omega.{arith}
-use native.Mathlib.Numerals.{add-one}
 use lib.ListN.{get_or}
 use borrow.Author.Tests.{eq-eqb, ne_eqb}
 use Rattle.settings.specs.declared.Settings.{Settings}
@@ -32,23 +31,21 @@ holder_down log (suc j) h e =
     let m : j ≡ suc j - 1 = omega arith in
     rw (eq-eqb (place_in (get_or log (suc j) blank).holding) 0 e) (ap (holder_of log) m)
 
--- what the entries below k leave for the one at k
-unfoldable pub holder_below : List Entry → ℕ → ℕ
-holder_below log zero = 0
-holder_below log (suc k) = holder_of log k
+-- the entry looked at has its own,
+pub holder_here : (log : List Entry) (i k place : ℕ) → place ≡ place_in (get_or log k blank).holding → (place ≡ 0 → ⊥)
+    → holder_of log k ≡ holder_of log i → place ≡ holder_of log i
+holder_here log i k place p n w = p ∙ sym (own_place log k (λ z. n (p ∙ z))) ∙ w
 
-pub holder_below_is : (log : List Entry) (i k : ℕ) → k ≡ i + 1 → holder_below log k ≡ holder_of log i
-unfolding holder_below
-holder_below_is log i k e = rw (e, add-one) refl
+-- or the search goes on below it,
+pub holder_next : (log : List Entry) (i k place : ℕ) → 0 < k → place ≡ place_in (get_or log k blank).holding → place ≡ 0
+    → holder_of log k ≡ holder_of log i → holder_of log (k - 1) ≡ holder_of log i
+holder_next log i k place h p z w = sym (holder_down log k h (sym p ∙ z)) ∙ w
 
-pub holder_new : (log : List Entry) (k place : ℕ) → place ≡ place_in (get_or log k blank).holding → (place ≡ 0 → ⊥) → holder_below log (k + 1) ≡ place
-unfolding holder_below
-holder_new log k place p n = rw add-one (own_place log k (λ z. n (p ∙ z)) ∙ sym p)
-
-pub holder_kept : (log : List Entry) (k place : ℕ) → place ≡ place_in (get_or log k blank).holding → place ≡ 0 → holder_below log (k + 1) ≡ holder_below log k
-unfolding holder_below holder_of
-holder_kept log zero place p z = sym p ∙ z
-holder_kept log (suc k) place p z = rw (add-one, eq-eqb (place_in (get_or log (suc k) blank).holding) 0 (sym p ∙ z)) refl
+-- down to the lowest
+pub holder_lowest : (log : List Entry) (i k place : ℕ) → k ≤ 0 → place ≡ place_in (get_or log 0 blank).holding → holder_of log k ≡ holder_of log i
+    → place ≡ holder_of log i
+unfolding holder_of
+holder_lowest log i k place h p w = let e : 0 ≡ k = omega arith in p ∙ ap (holder_of log) e ∙ w
 
 -- In an image that opens it is the block that the entry means, one of the blocks of entries up to its own.
 pub record Meant (s : Settings) (l : List ℕ) (x : Brick) (i : ℕ) : Type 0 where

@@ -1,16 +1,16 @@
-use Rattle.std.proofs.Common.{arith, sym, ◌∙◌}
+use Rattle.std.proofs.Common.{arith}
 use Rattle.image.specs.Opening.{blank}
-use Rattle.image.proofs.Laws.HolderLaws.{holder_below_is, holder_new, holder_kept}
-use Rattle.image.proofs.holder_of.Goals.{then-place-ne0, else-place-ne0}
+use Rattle.image.proofs.Laws.HolderLaws.{holder_here, holder_next, holder_lowest}
 use Rattle.image.proofs.holder_of.Goals as goal
+
+pub returns-then-place-ne0 : goal.returns-then-place-ne0
+unfolding blank
+returns-then-place-ne0 c = holder_here _ _ _ _ c.place_of-place.ensures c.if-place-ne0.true c.loop-k.invariant
 
 pub loop-k-preserved : goal.loop-k-preserved
 unfolding blank
-loop-k-preserved c =
-    elim c.if-place-ne0.branch [
-      | then-place-ne0 w ↦ w.holder-is ∙ sym (holder_new _ c.loop-k.k _ c.place_of-place.ensures w.if-place-ne0.true)
-      | else-place-ne0 w ↦ w.holder-is ∙ c.loop-k.invariant ∙ sym (holder_kept _ c.loop-k.k _ c.place_of-place.ensures w.if-place-ne0.false)
-    ]
+loop-k-preserved c = holder_next _ _ _ _ (omega arith) c.place_of-place.ensures c.if-place-ne0.false c.loop-k.invariant
 
 pub returns : goal.returns
-returns c = c.loop-k.invariant ∙ holder_below_is c.args.log c.args.i c.loop-k.k (omega arith)
+unfolding blank
+returns c = holder_lowest _ _ _ _ (omega arith) c.place_of.ensures c.loop-k.invariant

@@ -1,6 +1,6 @@
-use Rattle.std.proofs.Common.{◌≡◌}
-use Rattle.image.proofs.Laws.HolderLaws.{holder_below}
+use Rattle.std.proofs.Common.{◌≡◌, ◌-◌}
+use Rattle.image.specs.Opening.{holder_of}
 use Rattle.image.proofs.holder_of.Given as goal
 
 abbrev pub invariant-loop-k : goal.invariant-loop-k
-invariant-loop-k l = l.holder ≡ holder_below l.log l.k
+invariant-loop-k l = holder_of l.log (l.k - 1) ≡ holder_of l.log l.i

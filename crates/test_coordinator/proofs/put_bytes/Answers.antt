@@ -5,7 +5,7 @@ use Rattle.test_coordinator.proofs.put_bytes.Goals as goal
 pub returns : goal.returns
 unfolding record_bytes
 returns c =
-    let s = c.args.c in
+    let s = c.args.c.now in
     let w1 = c.put_row.ensures in
     let w2 = c.put_row-2.ensures in
     let w3 = c.put_row-3.ensures in

@@ -5,7 +5,7 @@ use Rattle.test_coordinator.proofs.put_shown.Goals as goal
 pub returns : goal.returns
 unfolding answer_bytes
 returns c =
-    let a = c.args.a in
+    let a = c.args.a.now in
     let w1 = c.put_row.ensures in
     let w2 = c.put_row-2.ensures in
     let w3 = c.put_row-3.ensures in

@@ -9,6 +9,6 @@ use borrow.Author.Tests.{tests}
 pub returns : goal.returns
 unfolding tally_right
 returns c =
-    let right = kept_right c.args.self.n c.args.self.targets c.args.self.phase c.args.self.first c.args.t in
+    let right = kept_right c.args.self.n c.args.self.targets c.args.self.phase c.args.self.first c.args.t.now in
     all_from_yields_List right _ _ _ c.all.ensures.ran (YieldsList-from_range 0 16 16 refl refl) (λ x b q k. search (rules, tests))
     ∙ each_is right 16
